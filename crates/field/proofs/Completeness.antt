@@ -1,0 +1,158 @@
+-- The table is complete: for 4 ≤ p ≤ 511, p stands in it exactly if it is irreducible; and it holds 1, 2, 3, 6, 9, 18, 30 polynomials by
+-- degree. One computed test and one lemma. Assumes nothing.
+use mathlib.Core.Path.{_≡_, refl, sym, ap, ap₂, _∙_, subst}
+use mathlib.Core.Bool.{Bool, true, false, true≢false}
+use mathlib.Core.List.{List, [], _∷_, _++_, map}
+use mathlib.Core.Logic.{_⊎_, inl, inr, ⊎-elim}
+use Prim.Native.Nat.{ℕ, zero, suc, _+_, _-_, _^_, _≤_, _<_, suc-le-suc}
+use native.Mathlib.Nat.{zero-lt-suc, le-of-suc-le-suc, not-suc-le-zero, eq-or-lt-of-le, add-suc, suc-add, add-zero, zero-add, le-refl}
+use native.Mathlib.Omega.{arith}
+use lib.Dec.{lit<, lit≤}
+use lib.Pow.{pow-pos, pow-mono}
+use lib.ListN.{length, getD, take, drop}
+use Rattle.field.specs.Polynomial.{_⊕_, digitsWithin, overDigits, reduce, rem, isIrreducible, someBelow}
+use Rattle.field.specs.Table.{keepIf, passing, polynomials, table, startOf}
+use Rattle.field.proofs.Irreducibility.{trial, trial-is}
+
+-- ---- lists of the numbers that pass a test
+
+pub passing-cong : (t u : ℕ → Bool) (n s : ℕ) → ((k : ℕ) → s ≤ k → k < s + n → t k ≡ u k) → passing t n s ≡ passing u n s
+unfolding passing
+passing-cong t u zero s h = refl
+passing-cong t u (suc n) s h =
+    ap₂ (λ (b : Bool) (l : List ℕ). keepIf b s l) (h s (le-refl s) (omega arith))
+    (passing-cong t u n (suc s) (λ k l r. h k (omega arith) (omega arith)))
+
+pub passing-sound : (t : ℕ → Bool) (n s i : ℕ) → i < length (passing t n s) → t (getD (passing t n s) i 0) ≡ true
+unfolding passing
+passing-sound t zero s i h = absurd (not-suc-le-zero h)
+passing-sound t (suc n) s i h = at (passing-sound t n (suc s)) (t s) refl i h
+  where
+    at : ((i : ℕ) → i < length (passing t n (suc s)) → t (getD (passing t n (suc s)) i 0) ≡ true)
+        → (b : Bool) → t s ≡ b → (i : ℕ) → i < length (keepIf b s (passing t n (suc s)))
+        → t (getD (keepIf b s (passing t n (suc s))) i 0) ≡ true
+    at ih true e zero h = e
+    at ih true e (suc i) h = ih i (le-of-suc-le-suc h)
+    at ih false e i h = ih i h
+
+-- where a number stands in a list
+Stands : ℕ → List ℕ → Type 0
+Stands k l = (i : ℕ) × (i < length l) × (getD l i 0 ≡ k)
+
+later : (k s : ℕ) (b : Bool) (l : List ℕ) → Stands k l → Stands k (keepIf b s l)
+unfolding Stands
+later k s true l r = (suc (r .0), suc-le-suc (r .1), r .2)
+later k s false l r = r
+
+passing-complete : (t : ℕ → Bool) (n s k : ℕ) → s ≤ k → k < s + n → t k ≡ true → Stands k (passing t n s)
+unfolding passing Stands
+passing-complete t zero s k l r e = let z : ⊥ = omega arith in absurd z
+passing-complete t (suc n) s k l r e =
+    ⊎-elim (λ (f : s ≡ k). subst (λ (b : Bool). Stands k (keepIf b s (passing t n (suc s)))) (sym (ap t f ∙ e)) (0, zero-lt-suc (length (passing t n (suc s))), f))
+    (λ (h : s < k). later k s (t s) (passing t n (suc s)) (passing-complete t n (suc s) k h (omega arith) e))
+    (eq-or-lt-of-le l)
+
+passing-append : (t : ℕ → Bool) (n k s : ℕ) → passing t (n + k) s ≡ passing t n s ++ passing t k (n + s)
+unfolding passing
+passing-append t zero k s = ap₂ (passing t) (zero-add k) (sym (zero-add s))
+passing-append t (suc n) k s =
+    ap (λ (x : ℕ). passing t x s) (suc-add n k)
+    ∙ ap (keepIf (t s) s) (passing-append t n k (suc s))
+    ∙ ap (λ (x : ℕ). keepIf (t s) s (passing t n (suc s) ++ passing t k x)) (add-suc n s ∙ sym (suc-add n s))
+    ∙ keep-append (t s) s (passing t n (suc s)) (passing t k (suc n + s))
+  where
+    keep-append : (b : Bool) (a : ℕ) (l r : List ℕ) → keepIf b a (l ++ r) ≡ keepIf b a l ++ r
+    keep-append true a l r = refl
+    keep-append false a l r = refl
+
+-- n numbers from s on
+countFrom : ℕ → ℕ → List ℕ
+countFrom zero s = []
+countFrom (suc n) s = s ∷ countFrom n (suc s)
+
+map-count : {A : Type 0} (f : ℕ → A) (d : A) (n s k : ℕ) → k < n → getD (map f (countFrom n s)) k d ≡ f (k + s)
+unfolding countFrom
+map-count f d zero s k h = absurd (not-suc-le-zero h)
+map-count f d (suc n) s zero h = ap f (sym (zero-add s))
+map-count f d (suc n) s (suc k) h = map-count f d n (suc s) k (le-of-suc-le-suc h) ∙ ap f (add-suc k s ∙ sym (suc-add k s))
+
+-- ---- the table
+
+-- the polynomials of degree m in the table
+pub part : ℕ → List ℕ
+part m = take (startOf (suc m) - startOf m) (drop (startOf m) table)
+
+-- the test: trial division of the numbers of each degree leaves just that degree's part of the table
+computed : map (λ m. passing trial (2 ^ m) (2 ^ m)) (countFrom 7 2) ≡ map part (countFrom 7 2)
+unfolding countFrom part startOf passing trial someBelow rem overDigits digitsWithin reduce _⊕_ table
+computed = refl
+
+trial-part : (m : ℕ) → 2 ≤ m → m ≤ 8 → passing trial (2 ^ m) (2 ^ m) ≡ part m
+trial-part m l u =
+    subst (λ (n : ℕ). passing trial (2 ^ n) (2 ^ n) ≡ part n) back
+    (sym (map-count (λ n. passing trial (2 ^ n) (2 ^ n)) [] 7 2 (m - 2) below)
+    ∙ ap (λ (x : List (List ℕ)). getD x (m - 2) []) computed
+    ∙ map-count part [] 7 2 (m - 2) below)
+  where
+    back : m - 2 + 2 ≡ m
+    back = omega arith
+
+    below : m - 2 < 7
+    below = omega arith
+
+-- the part of the table for a degree holds the irreducible polynomials of that degree
+pub polynomials-part : (m : ℕ) → 2 ≤ m → m ≤ 8 → polynomials m ≡ part m
+unfolding polynomials
+polynomials-part m l u =
+    passing-cong isIrreducible trial (2 ^ m) (2 ^ m)
+    (λ k a b. sym (trial-is k (omega (arith, pow-pos m)) (omega (arith, pow-mono {j = 8} u))))
+    ∙ trial-part m l u
+
+-- 1, 2, 3, 6, 9, 18, 30 by degree
+pub polynomials-count : (m : ℕ) → 2 ≤ m → m ≤ 8 → length (polynomials m) ≡ getD (1 ∷ 2 ∷ 3 ∷ 6 ∷ 9 ∷ 18 ∷ 30 ∷ []) (m - 2) 0
+polynomials-count m l u =
+    ap length (polynomials-part m l u)
+    ∙ ap (λ (n : ℕ). length (part n)) (sym back)
+    ∙ sym (map-count (λ n. length (part n)) 0 7 2 (m - 2) (omega arith))
+    ∙ ap (λ (x : List ℕ). getD x (m - 2) 0) lengths
+  where
+    back : m - 2 + 2 ≡ m
+    back = omega arith
+
+    lengths : map (λ n. length (part n)) (countFrom 7 2) ≡ 1 ∷ 2 ∷ 3 ∷ 6 ∷ 9 ∷ 18 ∷ 30 ∷ []
+    lengths = unfold countFrom part startOf table in refl
+
+-- two ranges that adjoin
+joined : {l r : List ℕ} (n k s : ℕ) → passing trial n s ≡ l → passing trial k (n + s) ≡ r → passing trial (n + k) s ≡ l ++ r
+joined n k s e f = passing-append trial n k s ∙ ap₂ (λ (x y : List ℕ). x ++ y) e f
+
+-- the seven parts are the whole table
+table-trial : passing trial 508 4 ≡ table
+unfolding part startOf table
+table-trial =
+    joined 4 504 4 (trial-part 2 (lit≤ tt) (lit≤ tt))
+    (joined 8 496 8 (trial-part 3 (lit≤ tt) (lit≤ tt))
+    (joined 16 480 16 (trial-part 4 (lit≤ tt) (lit≤ tt))
+    (joined 32 448 32 (trial-part 5 (lit≤ tt) (lit≤ tt))
+    (joined 64 384 64 (trial-part 6 (lit≤ tt) (lit≤ tt))
+    (joined 128 256 128 (trial-part 7 (lit≤ tt) (lit≤ tt)) (trial-part 8 (lit≤ tt) (lit≤ tt)))))))
+
+table-is : passing isIrreducible 508 4 ≡ table
+table-is = passing-cong isIrreducible trial 508 4 (λ k a b. sym (trial-is k (omega arith) (omega arith))) ∙ table-trial
+
+pub table-length : length table ≡ 69
+unfolding table
+table-length = refl
+
+-- every entry of the table is irreducible
+pub table-sound : (i : ℕ) → i < 69 → isIrreducible (getD table i 0) ≡ true
+table-sound i h =
+    subst (λ (l : List ℕ). i < length l → isIrreducible (getD l i 0) ≡ true) table-is (passing-sound isIrreducible 508 4 i)
+    (subst (λ (n : ℕ). i < n) (sym table-length) h)
+
+-- an irreducible polynomial from 4 to 511 stands in the table
+pub table-complete : (p : ℕ) → 4 ≤ p → p ≤ 511 → isIrreducible p ≡ true → (i : ℕ) × (i < 69) × (getD table i 0 ≡ p)
+unfolding Stands
+table-complete p l u e =
+    let r : Stands p table = subst (Stands p) table-is (passing-complete isIrreducible 508 4 p l (omega arith) e) in
+    (r .0, subst (λ (n : ℕ). r .0 < n) table-length (r .1), r .2)

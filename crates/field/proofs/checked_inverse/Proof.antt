@@ -1,0 +1,62 @@
+-- `field::checked_inverse` meets its contract: what the polynomial is refused for, the call is. Assumes nothing.
+use mathlib.Core.Path.{_≡_, sym, ap, _∙_}
+use native.Mathlib.Nat.{lt-of-le-of-lt}
+use lib.Dec.{lit<}
+use Rattle.field.specs.Polynomial.{Modulus}
+use Rattle.field.specs.Outcome.{answerOf, inverseAnswer}
+use Rattle.field.proofs.Calls.{degree-accepted, degree-refused, over-modulus}
+use borrow.Author.Needs.{needs}
+use Rattle.field.proofs.checked_inverse.Statement.{statement}
+use Rattle.field.proofs.checked_inverse.Tie as tie
+use Rattle.field.proofs.checked_inverse.Reads as reads
+use Rattle.field.proofs.checked_inverse.Lts as lts
+use Rattle.field.proofs.checked_degree.Reads as checked-degree-reads
+use Rattle.field.proofs.inverse_over.Reads as inverse-over-reads
+
+-- src/lib.rt:184:11
+checked-degree-requires : tie.Need-checked-degree-requires
+checked-degree-requires c κs = search needs
+
+-- src/lib.rt:185:26
+enum-known-r : tie.Need-enum-known-r
+enum-known-r c = search needs
+
+-- src/lib.rt:186:43
+enum-told : tie.Need-enum-told
+enum-told c = search needs
+
+-- the polynomial passes where its degree is told
+modulus : (c : tie.After-enum-told) → Modulus (c .before .before .before .args .p)
+modulus c = degree-accepted (c .before .before .before .args .p) _ (ap answerOf (sym (c .enum-told .given .1)) ∙ c .before .before .checked-degree .ensures) .0
+
+-- src/lib.rt:186:43
+cast-inverse-over : tie.Need-cast-inverse-over
+cast-inverse-over c = record { fits = lt-of-le-of-lt (modulus c .high) (lit< tt) }
+
+-- src/lib.rt:186:30
+inverse-over-requires : tie.Need-inverse-over-requires
+inverse-over-requires c κs = modulus c
+
+-- src/lib.rt:181:1
+returns : tie.Need-returns
+unfolding inverseAnswer
+returns c =
+    degree-refused (c .before .before .before .before .args .p) (c .before .r .given .0 .0) _
+    (ap answerOf (sym (c .before .r .given .1)) ∙ c .before .before .before .checked-degree .ensures)
+
+-- src/lib.rt:181:1
+returns-2 : tie.Need-returns-2
+unfolding inverseAnswer
+returns-2 c = c .inverse-over .ensures ∙ sym (over-modulus (c .before .before .before .before .args .p) _ (modulus (c .before)))
+
+pub checked-inverse-spec : {M : Type 1} → statement M
+checked-inverse-spec =
+    tie.close
+    (tie.spec
+    checked-degree-requires
+    enum-known-r
+    enum-told
+    cast-inverse-over
+    inverse-over-requires
+    returns
+    returns-2)

@@ -1,0 +1,78 @@
+-- `field::product_over` meets its contract. Assumes nothing.
+use mathlib.Core.Path.{_≡_, sym, ap, ap₂, _∙_}
+use mathlib.Core.Bool.{Bool, false, _||_, or-true}
+use Prim.Native.Nat.{ℕ}
+use native.Mathlib.Nat.{pos-of-ne-zero}
+use borrow.Author.Tests.{eq-eqb, ne-eqb}
+use lib.Dec.{eqb}
+use Rattle.field.specs.Polynomial.{product, inverse, xorCount}
+use Rattle.field.specs.Outcome.{accepted, refused, refuse, isTooLarge}
+use Rattle.field.proofs.Calls.{not-too-large, element-fits, refuse-taken, refuse-left}
+use borrow.Author.Needs.{needs}
+use Rattle.field.proofs.product_over.Statement.{statement}
+use Rattle.field.proofs.product_over.Tie as tie
+use Rattle.field.proofs.product_over.Reads as reads
+use Rattle.field.proofs.product_over.Lts as lts
+use Rattle.field.proofs.product.Reads as product-reads
+use Rattle.field.proofs.too_large.Reads as too-large-reads
+
+-- src/lib.rt:171:8
+too-large-requires : tie.Need-too-large-requires
+too-large-requires c κs = search needs
+
+-- src/lib.rt:172:9
+returns : tie.Need-returns
+returns c =
+    refuse-taken 7 _ _
+    (ap (λ (b : Bool). b || isTooLarge (c .before .before .args .p) (c .before .before .args .b)) (sym (c .before .too-large .ensures) ∙ c .if1 .taken))
+
+-- src/lib.rt:174:8
+too-large-requires-2 : tie.Need-too-large-requires-2
+too-large-requires-2 c κs = search needs
+
+-- src/lib.rt:175:9
+returns-2 : tie.Need-returns-2
+returns-2 c =
+    refuse-taken 7 _ _
+    (ap (λ (b : Bool). isTooLarge (c .before .before .before .before .args .p) (c .before .before .before .before .args .a) || b) (sym (c .before .too-large2 .ensures) ∙ c .if2 .taken)
+    ∙ or-true (isTooLarge (c .before .before .before .before .args .p) (c .before .before .before .before .args .a)))
+
+-- both values are elements
+first : (c : tie.Else2) → isTooLarge (c .before .before .before .before .args .p) (c .before .before .before .before .args .a) ≡ false
+first c = sym (c .before .before .before .too-large .ensures) ∙ c .before .before .if1 .left
+
+second : (c : tie.Else2) → isTooLarge (c .before .before .before .before .args .p) (c .before .before .before .before .args .b) ≡ false
+second c = sym (c .before .too-large2 .ensures) ∙ c .if2 .left
+
+cast-product : tie.Need-cast-product
+cast-product c = record { fits = element-fits (c .before .before .before .before .args .p) (c .before .before .before .before .args .a) (c .before .before .before .before .pre) (first c) }
+
+-- src/lib.rt:177:40
+cast-product-2 : tie.Need-cast-product-2
+cast-product-2 c = record { fits = element-fits (c .before .before .before .before .args .p) (c .before .before .before .before .args .b) (c .before .before .before .before .pre) (second c) }
+
+-- src/lib.rt:177:20
+product-requires : tie.Need-product-requires
+product-requires c κs = (c .before .before .before .before .pre, not-too-large (c .before .before .before .before .args .p) (c .before .before .before .before .args .a) (first c))
+
+-- src/lib.rt:177:20
+cast-t11 : tie.Need-cast-t11
+cast-t11 c = search needs
+
+-- src/lib.rt:167:1
+returns-3 : tie.Need-returns-3
+returns-3 c = ap accepted (c .product .ensures) ∙ refuse-left 7 _ _ (ap₂ _||_ (first (c .before)) (second (c .before)))
+
+pub product-over-spec : {M : Type 1} → statement M
+product-over-spec =
+    tie.close
+    (tie.spec
+    too-large-requires
+    returns
+    too-large-requires-2
+    returns-2
+    cast-product
+    cast-product-2
+    product-requires
+    cast-t11
+    returns-3)

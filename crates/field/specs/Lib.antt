@@ -1,0 +1,5 @@
+-- The definitions that the contracts of `field` cite.
+pub mod Polynomial
+pub mod Table
+pub mod Outcome
+pub mod Reference

@@ -1,0 +1,283 @@
+// The field of the polynomials over two elements, reduced by a chosen irreducible polynomial of degree 2 to 8.
+// A polynomial is a number whose bit i is the coefficient of x^i; an element of the field of degree m is a number below 2^m.
+
+ghost use mathlib.Core.Path.{_≡_};
+ghost use mathlib.Core.Bool.{_||_};
+ghost use Prim.Native.Nat.{_*_, _^_, _≤_, _<_};
+ghost use lib.Dec.{eqb};
+ghost use Rattle.field.specs.Outcome.{answerOf, accepted, refuse, isTooLarge, degreeAnswer, productAnswer, inverseAnswer, countAnswer};
+ghost use Rattle.field.specs.Polynomial.{Modulus, degree, isIrreducible, reduce, rem, product, inverse, xorCount};
+
+// The irreducible polynomials, grouped by degree: 1, 2, 3, 6, 9, 18 and 30 of degrees 2 to 8.
+pub const TABLE: [u16; 69] = [
+    7,
+    11,
+    13,
+    19,
+    25,
+    31,
+    37,
+    41,
+    47,
+    55,
+    59,
+    61,
+    67,
+    73,
+    87,
+    91,
+    97,
+    103,
+    109,
+    115,
+    117,
+    131,
+    137,
+    143,
+    145,
+    157,
+    167,
+    171,
+    185,
+    191,
+    193,
+    203,
+    211,
+    213,
+    229,
+    239,
+    241,
+    247,
+    253,
+    283,
+    285,
+    299,
+    301,
+    313,
+    319,
+    333,
+    351,
+    355,
+    357,
+    361,
+    369,
+    375,
+    379,
+    391,
+    395,
+    397,
+    415,
+    419,
+    425,
+    433,
+    445,
+    451,
+    463,
+    471,
+    477,
+    487,
+    499,
+    501,
+    505,
+];
+
+// Whether the polynomial stands in the table of the irreducible ones.
+pub fn irreducible(p: u16) -> bool
+    requires { ⌜ (4 ≤ p) × (p ≤ 511) ⌝ }
+    ensures { λ r. ⌜ r ≡ isIrreducible p ⌝ }
+{
+    let mut i = 0;
+    while i < 69 {
+        if TABLE[i] == p {
+            return true;
+        }
+        i += 1;
+    }
+    false
+}
+
+// The place of the highest set bit.
+pub fn degree(p: u16) -> u16
+    ensures { λ r. ⌜ r ≡ degree p ⌝ }
+{
+    let mut x = p;
+    let mut m: u16 = 0;
+    while 1 < x {
+        x >>= 1;
+        m += 1;
+    }
+    m
+}
+
+// One step of long division: the polynomial is subtracted where that makes x smaller.
+fn reduce(p: u16, x: u16) -> u16
+    ensures { λ r. ⌜ r ≡ reduce p x ⌝ }
+{
+    let y = x ^ p;
+    if y < x { y } else { x }
+}
+
+// An element doubled: shifted, and reduced where it reaches the degree.
+fn double(p: u16, x: u16) -> u16
+    requires { ⌜ Modulus p × (x < 2 ^ degree p) ⌝ }
+    ensures { λ r. ⌜ r ≡ rem p (x * 2) ⌝ }
+{
+    reduce(p, x << 1)
+}
+
+// The product: a, doubled again and again, is added where b has a set bit.
+pub fn product(p: u16, a: u8, b: u8) -> u8
+    requires { ⌜ Modulus p × (a < 2 ^ degree p) ⌝ }
+    ensures { λ r. ⌜ r ≡ product p a b ⌝ }
+{
+    let mut x = a as u16;
+    let mut y = b as u16;
+    let mut r: u16 = 0;
+    while y != 0 {
+        r ^= (y & 1) * x;
+        x = double(p, x);
+        y >>= 1;
+    }
+    r as u8
+}
+
+// The element whose product with a is 1.
+pub fn inverse(p: u16, a: u8) -> u8
+    requires { ⌜ Modulus p × (0 < a) × (a < 2 ^ degree p) ⌝ }
+    ensures { λ r. ⌜ r ≡ inverse p a ⌝ }
+{
+    let mut b: u8 = 0;
+    while product(p, a, b) != 1 {
+        b += 1;
+    }
+    b
+}
+
+// The XOR count of an element: the ones in the columns of its bit matrix, less the degree; 0 for 0.
+pub fn xor_count(p: u16, a: u8) -> u16
+    requires { ⌜ Modulus p × (a < 2 ^ degree p) ⌝ }
+    ensures { λ r. ⌜ r ≡ xorCount p a ⌝ }
+{
+    if a == 0 {
+        return 0;
+    }
+    let m = degree(p);
+    let mut column = a as u16;
+    let mut ones: u16 = 0;
+    let mut j: u16 = 0;
+    while j < m {
+        ones += u16::count_ones(column) as u16;
+        column = double(p, column);
+        j += 1;
+    }
+    ones - m
+}
+
+// Why a call is refused. The definition `numberOf` gives the number of each reason.
+pub enum Refusal {
+    PolynomialRange,
+    Reducible,
+    OrderRange,
+    CountRange,
+    ValueRange,
+    BadCandidate,
+    NoRow,
+}
+
+// What a call yields.
+pub enum Outcome {
+    Value(u32),
+    Refused(Refusal),
+}
+
+// The degree of a polynomial that is in range and irreducible.
+pub fn checked_degree(p: u32) -> Outcome
+    ensures { λ r. ⌜ answerOf r ≡ degreeAnswer p ⌝ }
+{
+    if p < 4 {
+        return Outcome::Refused(Refusal::PolynomialRange);
+    }
+    if 511 < p {
+        return Outcome::Refused(Refusal::PolynomialRange);
+    }
+    let q = p as u16;
+    if irreducible(q) {
+        Outcome::Value(degree(q) as u32)
+    } else {
+        Outcome::Refused(Refusal::Reducible)
+    }
+}
+
+// Whether the value is 2^m or more, m the degree.
+fn too_large(p: u16, a: u32) -> bool
+    requires { ⌜ Modulus p ⌝ }
+    ensures { λ r. ⌜ r ≡ isTooLarge p a ⌝ }
+{
+    1 << degree(p) <= a
+}
+
+// The product of two elements of the field.
+pub fn checked_product(p: u32, a: u32, b: u32) -> Outcome
+    ensures { λ r. ⌜ answerOf r ≡ productAnswer p a b ⌝ }
+{
+    match checked_degree(p) {
+        Outcome::Refused(r) => Outcome::Refused(r),
+        Outcome::Value(_) => product_over(p as u16, a, b),
+    }
+}
+
+fn product_over(p: u16, a: u32, b: u32) -> Outcome
+    requires { ⌜ Modulus p ⌝ }
+    ensures { λ r. ⌜ answerOf r ≡ refuse 7 (isTooLarge p a || isTooLarge p b) (accepted (product p a b)) ⌝ }
+{
+    if too_large(p, a) {
+        return Outcome::Refused(Refusal::ValueRange);
+    }
+    if too_large(p, b) {
+        return Outcome::Refused(Refusal::ValueRange);
+    }
+    Outcome::Value(product(p, a as u8, b as u8) as u32)
+}
+
+// The inverse of a nonzero element.
+pub fn checked_inverse(p: u32, a: u32) -> Outcome
+    ensures { λ r. ⌜ answerOf r ≡ inverseAnswer p a ⌝ }
+{
+    match checked_degree(p) {
+        Outcome::Refused(r) => Outcome::Refused(r),
+        Outcome::Value(_) => inverse_over(p as u16, a),
+    }
+}
+
+fn inverse_over(p: u16, a: u32) -> Outcome
+    requires { ⌜ Modulus p ⌝ }
+    ensures { λ r. ⌜ answerOf r ≡ refuse 7 (isTooLarge p a) (refuse 8 (eqb a 0) (accepted (inverse p a))) ⌝ }
+{
+    if too_large(p, a) {
+        return Outcome::Refused(Refusal::ValueRange);
+    }
+    if a == 0 {
+        return Outcome::Refused(Refusal::BadCandidate);
+    }
+    Outcome::Value(inverse(p, a as u8) as u32)
+}
+
+// The XOR count of an element.
+pub fn checked_xor_count(p: u32, a: u32) -> Outcome
+    ensures { λ r. ⌜ answerOf r ≡ countAnswer p a ⌝ }
+{
+    match checked_degree(p) {
+        Outcome::Refused(r) => Outcome::Refused(r),
+        Outcome::Value(_) => xor_count_over(p as u16, a),
+    }
+}
+
+fn xor_count_over(p: u16, a: u32) -> Outcome
+    requires { ⌜ Modulus p ⌝ }
+    ensures { λ r. ⌜ answerOf r ≡ refuse 7 (isTooLarge p a) (accepted (xorCount p a)) ⌝ }
+{
+    if too_large(p, a) {
+        return Outcome::Refused(Refusal::ValueRange);
+    }
+    Outcome::Value(xor_count(p, a as u8) as u32)
+}

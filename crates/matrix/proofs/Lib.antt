@@ -1,0 +1,1 @@
+-- Laws of matrices over the numbers of a field.

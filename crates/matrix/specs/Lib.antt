@@ -1,0 +1,4 @@
+-- The definitions that the contracts of `matrix` cite.
+pub mod Numbers
+pub mod Counts
+pub mod Regular

@@ -1,0 +1,1 @@
+// Matrices over the field of a polynomial.

@@ -1,0 +1,5 @@
+pub mod Rows
+pub mod Demand
+pub mod Walk
+pub mod Canonical
+pub mod Seven

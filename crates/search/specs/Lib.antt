@@ -1,0 +1,3 @@
+pub mod Lightest
+pub mod Walk
+pub mod Seven

@@ -1,0 +1,1 @@
+// The search for the lightest row. No code yet: the definitions are in specs/, the theorems in proofs/.
