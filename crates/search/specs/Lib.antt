@@ -1,3 +1,4 @@
 pub mod Lightest
 pub mod Walk
 pub mod Seven
+pub mod Answer

@@ -1,0 +1,9 @@
+pub mod Places
+pub mod Compare
+pub mod Lengths
+pub mod Numbers
+pub mod Loops
+pub mod Form
+pub mod Requests
+pub mod Answers
+pub mod Example

@@ -1,0 +1,52 @@
+-- `text::read_header` meets its contract: the numbers of a text in form are those that are read.
+-- Assumes nothing.
+use borrow.Author.Needs.{needs}
+use mathlib.Core.Path.{sym, _∙_}
+use Rattle.text.specs.Reading.{headerOf, kindOf, polynomialOf, orderOf, countOf}
+use Rattle.text.proofs.read_header.Statement.{statement}
+use Rattle.text.proofs.read_header.Tie as tie
+
+in-form-requires : tie.Need-in-form-requires
+in-form-requires c κs = search needs
+
+number-at-requires : tie.Need-number-at-requires
+number-at-requires c κs = search needs
+
+number-at-requires-2 : tie.Need-number-at-requires-2
+number-at-requires-2 c κs = search needs
+
+number-at-requires-3 : tie.Need-number-at-requires-3
+number-at-requires-3 c κs = search needs
+
+number-at-requires-4 : tie.Need-number-at-requires-4
+number-at-requires-4 c κs = search needs
+
+returns : tie.Need-returns
+unfolding headerOf kindOf polynomialOf orderOf countOf
+returns c =
+    let third = c .before in
+    let second = third .before in
+    let first = second .before in
+    rw (
+      sym (first .before .before .in-form .ensures) ∙ first .before .if1 .taken,
+      first .number-at .ensures,
+      second .number-at2 .ensures,
+      third .number-at3 .ensures,
+      c .number-at4 .ensures,
+    )
+
+returns-2 : tie.Need-returns-2
+unfolding headerOf
+returns-2 c = rw (sym (c .before .in-form .ensures) ∙ c .if1 .left)
+
+pub read-header-spec : {M : Type 1} → statement M
+read-header-spec =
+    tie.close
+    (tie.spec
+    in-form-requires
+    number-at-requires
+    number-at-requires-2
+    number-at-requires-3
+    number-at-requires-4
+    returns
+    returns-2)
