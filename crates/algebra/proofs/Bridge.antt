@@ -137,7 +137,8 @@ module _ (K M : Operations) (h : K .Element → M .Element) (H : Homomorphism K 
 
 -- ---- only the entries below the order count
 
-identity-keeps : (K : Operations) → Homomorphism K K (λ a. a)
+-- the identity keeps the operations
+pub identity-keeps : (K : Operations) → Homomorphism K K (λ a. a)
 identity-keeps K =
     record { keeps-null = refl; keeps-one = refl; keeps-plus = λ a b. refl; keeps-times = λ a b. refl; keeps-isNull = λ a. refl }
 

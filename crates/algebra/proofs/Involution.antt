@@ -14,11 +14,13 @@ use Rattle.algebra.proofs.Words.{getD-tabulate, tabulate-of, words-all,
 use Rattle.algebra.proofs.Sums.{additive, delta, delta-same, delta-other, sum-cong, sum-null, sum-swap, sum-place, times-null, null-times, equal-of-sum, times-sum, sum-times, le-or-lt}
 use Rattle.algebra.proofs.Weights.{length-apply, getD-apply, unit, length-unit, getD-unit, apply-unit, weight-zero, zero-weight}
 
-and-left : (a b : Bool) → (a && b) ≡ true → a ≡ true
+-- both tests pass: the first does
+pub and-left : (a b : Bool) → (a && b) ≡ true → a ≡ true
 and-left true b e = refl
 and-left false b e = e
 
-and-right : (a b : Bool) → (a && b) ≡ true → b ≡ true
+-- and the second
+pub and-right : (a b : Bool) → (a && b) ≡ true → b ≡ true
 and-right true b e = e
 and-right false b e = absurd (false≢true e)
 

@@ -12,6 +12,7 @@ use lib.Dec.{ltb, T, lt→ltb}
 use lib.Arith.{le→nltb}
 use Rattle.algebra.specs.Operations.{Operations, Field}
 use Rattle.algebra.specs.Matrix.{tabulate, weight, apply, skip, without, det}
+use Rattle.algebra.proofs.Bridge.{Homomorphism, identity-keeps}
 use Rattle.algebra.proofs.Laws.{ring, equal-of-null, plus-comm, times-null-only}
 use Rattle.algebra.proofs.Rectangles.{dot, applyTo, Kernel, dot-linear, dot-scaled, dot-weightless, weight-nulls, weight-scaled}
 use Rattle.algebra.proofs.Columns.{Columns, tail, detOf, line, Inserted, length-inserted, minor, minors, line-minors, find, moved, det-clear, det-columns}
@@ -129,15 +130,6 @@ module _ (K : Operations) where
   pub firstLine-is : (r : ℕ) (u : ℕ → E) (p : ℕ) → First K r u p → firstLine K r u ≡ p
   firstLine-is r u p f = le-antisymm (first-below r u p (firstLine K r u) f (firstLine-first r u)) (first-below r u (firstLine K r u) p (firstLine-first r u) f)
 
-  -- it depends on nothing from r on
-  pub first-cong : (r : ℕ) (u v : ℕ → E) (p : ℕ) → ((i : ℕ) → i < r → u i ≡ v i) → First K r u p → First K r v p
-  first-cong r u v p e f =
-      record {
-        fits = f .fits;
-        before = λ i l. ap isNull (sym (e i (omega (arith, f .fits)))) ∙ f .before i l;
-        there = λ l. ap isNull (sym (e p l)) ∙ f .there l;
-      }
-
   -- there is no such place below r, or there is one
   first : (r : ℕ) (u : ℕ → E) → First K r u r ⊎ ((p : ℕ) × First K r u p × (p < r))
   first r u = at (eq-or-lt-of-le (firstLine-first r u .fits))
@@ -158,31 +150,60 @@ module _ (K : Operations) where
   unfolding hasKernel
   hasKernel-step c r f p g l = rw (firstLine-is r (λ i. f i 0) p g) (when-below p r (hasKernel K c (r - 1) (cleared K f p)) true l)
 
-  -- the block that one step leaves depends on nothing else either
-  cleared-cong : (r c : ℕ) (f g : ℕ → ℕ → E) (p : ℕ) → p < r → ((i j : ℕ) → i < r → j < suc c → f i j ≡ g i j)
-      → (i j : ℕ) → i < r - 1 → j < c → cleared K f p i j ≡ cleared K g p i j
-  unfolding cleared
-  cleared-cong r c f g p l e i j m n =
-      let k : skip p i < r = omega (arith, skip-le p i) in
-      ap₂ (λ a b. a ⊕ b)
-      (ap₂ (λ a b. a ⊗ b) (e p 0 l (omega arith)) (e (skip p i) (suc j) k (omega arith)))
-      (ap₂ (λ a b. a ⊗ b) (e (skip p i) 0 k (omega arith)) (e p (suc j) l (omega arith)))
+-- ---- a map that keeps the operations keeps the answer of the elimination
 
-  -- the elimination depends on nothing but the lines below r and the columns below c
-  pub hasKernel-cong : (c r : ℕ) (f g : ℕ → ℕ → E) → ((i j : ℕ) → i < r → j < c → f i j ≡ g i j) → hasKernel K c r f ≡ hasKernel K c r g
-  unfolding hasKernel
-  hasKernel-cong zero r f g e = refl
-  hasKernel-cong (suc c) r f g e =
-      ⊎-elim
-      (λ n. hasKernel-none c r f n ∙ sym (hasKernel-none c r g (first-cong r (λ i. f i 0) (λ i. g i 0) r column n)))
-      (λ w.
-      hasKernel-step c r f (w .0) (w .1) (w .2)
-      ∙ hasKernel-cong c (r - 1) (cleared K f (w .0)) (cleared K g (w .0)) (cleared-cong r c f g (w .0) (w .2) e)
-      ∙ sym (hasKernel-step c r g (w .0) (first-cong r (λ i. f i 0) (λ i. g i 0) (w .0) column (w .1)) (w .2)))
-      (first r (λ i. f i 0))
+module _ (K M : Operations) (h : K .Element → M .Element) (H : Homomorphism K M h) where
+  -- a first place stays one
+  pub first-bridge : (r : ℕ) (u : ℕ → K .Element) (v : ℕ → M .Element) (p : ℕ) → ((i : ℕ) → i < r → h (u i) ≡ v i)
+      → First K r u p → First M r v p
+  first-bridge r u v p e f =
+      record {
+        fits = f .fits;
+        before = λ i l. null i (omega (arith, f .fits)) ∙ f .before i l;
+        there = λ l. null p l ∙ f .there l;
+      }
     where
-      column : (i : ℕ) → i < r → f i 0 ≡ g i 0
+      null : (i : ℕ) → i < r → M .isNull (v i) ≡ K .isNull (u i)
+      null i l = ap (M .isNull) (sym (e i l)) ∙ H .keeps-isNull (u i)
+
+  -- the block that one step leaves is kept
+  cleared-bridge : (r c : ℕ) (f : ℕ → ℕ → K .Element) (g : ℕ → ℕ → M .Element) (p : ℕ) → p < r
+      → ((i j : ℕ) → i < r → j < suc c → h (f i j) ≡ g i j)
+      → (i j : ℕ) → i < r - 1 → j < c → h (cleared K f p i j) ≡ cleared M g p i j
+  unfolding cleared
+  cleared-bridge r c f g p l e i j m n =
+      let k : skip p i < r = omega (arith, skip-le p i) in
+      H .keeps-plus _ _
+      ∙ ap₂ (M .plus)
+      (H .keeps-times _ _ ∙ ap₂ (M .times) (e p 0 l (omega arith)) (e (skip p i) (suc j) k (omega arith)))
+      (H .keeps-times _ _ ∙ ap₂ (M .times) (e (skip p i) 0 k (omega arith)) (e p (suc j) l (omega arith)))
+
+  -- and so is the answer
+  pub hasKernel-bridge : (c r : ℕ) (f : ℕ → ℕ → K .Element) (g : ℕ → ℕ → M .Element)
+      → ((i j : ℕ) → i < r → j < c → h (f i j) ≡ g i j) → hasKernel M c r g ≡ hasKernel K c r f
+  unfolding hasKernel
+  hasKernel-bridge zero r f g e = refl
+  hasKernel-bridge (suc c) r f g e =
+      ⊎-elim
+      (λ n. hasKernel-none M c r g (first-bridge r (λ i. f i 0) (λ i. g i 0) r column n) ∙ sym (hasKernel-none K c r f n))
+      (λ w.
+      hasKernel-step M c r g (w .0) (first-bridge r (λ i. f i 0) (λ i. g i 0) (w .0) column (w .1)) (w .2)
+      ∙ hasKernel-bridge c (r - 1) (cleared K f (w .0)) (cleared M g (w .0)) (cleared-bridge r c f g (w .0) (w .2) e)
+      ∙ sym (hasKernel-step K c r f (w .0) (w .1) (w .2)))
+      (first K r (λ i. f i 0))
+    where
+      column : (i : ℕ) → i < r → h (f i 0) ≡ g i 0
       column i l = e i 0 l (omega arith)
+
+-- a first place depends on nothing from r on
+pub first-cong : (K : Operations) (r : ℕ) (u v : ℕ → K .Element) (p : ℕ) → ((i : ℕ) → i < r → u i ≡ v i)
+    → First K r u p → First K r v p
+first-cong K = first-bridge K K (λ a. a) (identity-keeps K)
+
+-- the elimination depends on nothing but the lines below r and the columns below c
+pub hasKernel-cong : (K : Operations) (c r : ℕ) (f g : ℕ → ℕ → K .Element) → ((i j : ℕ) → i < r → j < c → f i j ≡ g i j)
+    → hasKernel K c r f ≡ hasKernel K c r g
+hasKernel-cong K c r f g e = sym (hasKernel-bridge K K (λ a. a) (identity-keeps K) c r f g e)
 
 -- ---- the laws of the elimination
 

@@ -42,7 +42,8 @@ module _ (K : Operations) (n : ℕ) (σ ρ : ℕ → ℕ) (v : Inverse n σ ρ) 
       sym (tabulate-of (K .null) n x _ long (λ i l.
       sym (getD-tabulate n (λ i. getD x (ρ i) (K .null)) (σ i) (K .null) (v .there i l) ∙ ap (λ (j : ℕ). getD x j (K .null)) (v .back-there i l))))
 
-same-bool : (a b : Bool) → (a ≡ true → b ≡ true) → (b ≡ true → a ≡ true) → a ≡ b
+-- tests that pass together are equal
+pub same-bool : (a b : Bool) → (a ≡ true → b ≡ true) → (b ≡ true → a ≡ true) → a ≡ b
 same-bool true b f g = sym (f refl)
 same-bool false true f g = g refl
 same-bool false false f g = refl

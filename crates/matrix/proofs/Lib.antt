@@ -1,1 +1,5 @@
 -- Laws of matrices over the numbers of a field.
+pub mod Squares
+pub mod Residues
+pub mod Theorems
+pub mod Rows

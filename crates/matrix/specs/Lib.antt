@@ -2,3 +2,4 @@
 pub mod Numbers
 pub mod Counts
 pub mod Regular
+pub mod Answers

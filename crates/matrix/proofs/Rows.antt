@@ -1,0 +1,192 @@
+-- Hadamard matrices over the numbers below 2^m: involution, MDS, moved rows, the halved product.
+-- Assumes nothing.
+use mathlib.Core.Path.{_≡_, refl, sym, ap, ap₂, _∙_}
+use mathlib.Core.Bool.{true, false}
+use mathlib.Core.List.{List, [], _∷_, _++_, map, map-append}
+use mathlib.Core.Logic.{_≢_}
+use Prim.Native.Nat.{ℕ, suc, _-_, _^_, _≤_, _<_}
+use lib.Bits.{bitXor, xor-lt}
+use lib.Dec.{eqb}
+use lib.ListN.{length, getD, length-map}
+use borrow.Author.Tests.{eqb-true, eq-eqb}
+use Rattle.algebra.specs.Operations.{Operations, Field}
+use Rattle.algebra.specs.Matrix.{tabulate, sum, apply, hadamard, branchNumber, isMds, isInvolution}
+use Rattle.algebra.proofs.Words.{getD-tabulate, tabulate-cong}
+use Rattle.algebra.proofs.Sums.{Inverse}
+use Rattle.algebra.proofs.Weights.{added}
+use Rattle.algebra.proofs.Hadamard.{involution-sum, sum-involution, null-not-mds, equal-not-mds}
+use Rattle.algebra.proofs.Symmetry.{same-bool, moved, branch-row, mds-row, involution-row}
+use Rattle.algebra.proofs.Halves.{halved-product}
+use Rattle.algebra.proofs.Bridge.{Homomorphism, sum-bridge, apply-bridge, hadamard-bridge}
+use Rattle.field.specs.Polynomial.{Modulus}
+use Rattle.matrix.specs.Numbers.{numbers, elements, WordsInField}
+use Rattle.matrix.specs.Regular.{regularUpTo}
+use Rattle.matrix.proofs.Squares as Squares
+use Rattle.matrix.proofs.Residues.{Residue, number, lift, lift-number, same-number, lift-words, residueList as all, residues-complete as complete, residues, number-keeps, residues-field}
+use Rattle.matrix.proofs.Residues.{branch-carried, mds-carried, involution-carried, regular-carried}
+
+-- the first n entries of a row, as elements
+lifted : (p n : ℕ) → List ℕ → List (Residue p)
+lifted p n row = tabulate n (λ i. lift p (getD row i 0))
+
+-- ---- the parts of the halved product
+
+-- one half of the result, for one half v of the input
+abbrev half : (K : Operations) (n : ℕ) (h1 h0 v0 v1 v : List (K .Element)) → List (K .Element)
+half K n h1 h0 v0 v1 v = added K (apply K n (hadamard K (added K h0 h1)) v) (apply K n (hadamard K h1) (added K v0 v1))
+
+module _ (K M : Operations) (h : K .Element → M .Element) (H : Homomorphism K M h) where
+  -- a map that keeps the operations keeps sums of words
+  added-bridge : (x y : List (K .Element)) → map h (added K x y) ≡ added M (map h x) (map h y)
+  unfolding added
+  added-bridge [] y = refl
+  added-bridge (a ∷ x) [] = refl
+  added-bridge (a ∷ x) (b ∷ y) = ap₂ _∷_ (H .keeps-plus a b) (added-bridge x y)
+
+  -- Hadamard products
+  product-bridge : (n : ℕ) (row x : List (K .Element)) (row′ x′ : List (M .Element)) → map h row ≡ row′ → map h x ≡ x′
+      → map h (apply K n (hadamard K row) x) ≡ apply M n (hadamard M row′) x′
+  product-bridge n row x row′ x′ e d =
+      apply-bridge K M h H n _ _ (λ i j l m. hadamard-bridge K M h H row i j) x ∙ ap₂ (λ r v. apply M n (hadamard M r) v) e d
+
+  -- and the halves of the result
+  half-bridge : (n : ℕ) (h1 h0 v0 v1 v : List (K .Element))
+      → map h (half K n h1 h0 v0 v1 v) ≡ half M n (map h h1) (map h h0) (map h v0) (map h v1) (map h v)
+  half-bridge n h1 h0 v0 v1 v =
+      added-bridge _ _
+      ∙ ap₂ (added M) (product-bridge n (added K h0 h1) v _ _ (added-bridge h0 h1) refl)
+      (product-bridge n h1 (added K v0 v1) _ _ refl (added-bridge v0 v1))
+
+module _ (p : ℕ) (h : Modulus p) (k : ℕ) where
+  -- the field of elements
+  abbrev R : Operations
+  R = residues p h
+
+  abbrev L : Field R
+  L = residues-field p h
+
+  module _ (row : List ℕ) (below : WordsInField p (2 ^ k) row) where
+    word : (i : ℕ) → i < 2 ^ k → getD (lifted p (2 ^ k) row) i (R .null) .0 ≡ getD row i 0
+    unfolding lifted WordsInField
+    word i l = ap (number p) (getD-tabulate (2 ^ k) (λ i. lift p (getD row i 0)) i (R .null) l) ∙ lift-number p (getD row i 0) (below i l)
+
+    entries : (i j : ℕ) → i < 2 ^ k → j < 2 ^ k → hadamard R (lifted p (2 ^ k) row) i j .0 ≡ hadamard (numbers p) row i j
+    unfolding hadamard
+    entries i j l m = word (bitXor i j) (xor-lt k i j l m)
+
+    sums : sum R (2 ^ k) (λ i. getD (lifted p (2 ^ k) row) i (R .null)) .0 ≡ sum (numbers p) (2 ^ k) (λ i. getD row i 0)
+    sums = sum-bridge R (numbers p) (number p) (number-keeps p h) (2 ^ k) _ _ word
+
+    -- a Hadamard matrix is an involution exactly where the sum of its row is 1
+    pub hadamard-involution : isInvolution (numbers p) (elements p) (2 ^ k) (hadamard (numbers p) row)
+        ≡ eqb (sum (numbers p) (2 ^ k) (λ i. getD row i 0)) 1
+    hadamard-involution =
+        involution-carried p h (2 ^ k) _ _ entries
+        ∙ same-bool _ _
+        (λ t. eq-eqb _ 1 (sym sums ∙ ap (number p) (involution-sum R L k _ (all p) (complete p) t)))
+        (λ t. sum-involution R L k _ (all p) (complete p) (same-number p _ _ (sums ∙ eqb-true _ 1 t)))
+
+    -- the same in two directions
+    pub involution-row-sum : isInvolution (numbers p) (elements p) (2 ^ k) (hadamard (numbers p) row) ≡ true
+        → sum (numbers p) (2 ^ k) (λ i. getD row i 0) ≡ 1
+    involution-row-sum t = eqb-true _ 1 (sym hadamard-involution ∙ t)
+
+    pub row-sum-involution : sum (numbers p) (2 ^ k) (λ i. getD row i 0) ≡ 1
+        → isInvolution (numbers p) (elements p) (2 ^ k) (hadamard (numbers p) row) ≡ true
+    row-sum-involution e = hadamard-involution ∙ eq-eqb _ 1 e
+
+    -- two equal entries: not MDS
+    pub equal-entries-not-mds : (a b : ℕ) → a < 2 ^ k → b < 2 ^ k → a ≢ b → getD row a 0 ≡ getD row b 0
+        → isMds (numbers p) (elements p) (2 ^ k) (hadamard (numbers p) row) ≡ false
+    equal-entries-not-mds a b l m d e =
+        mds-carried p h (2 ^ k) _ _ entries
+        ∙ equal-not-mds R L k _ (all p) (complete p) a b l m d
+        (same-number p _ _ (word a l ∙ e ∙ sym (word b m)))
+
+    -- a zero entry: not MDS
+    pub zero-entry-not-mds : (a : ℕ) → a < 2 ^ k → getD row a 0 ≡ 0
+        → isMds (numbers p) (elements p) (2 ^ k) (hadamard (numbers p) row) ≡ false
+    zero-entry-not-mds a l z =
+        mds-carried p h (2 ^ k) _ _ entries
+        ∙ null-not-mds R L k _ (all p) (complete p) a l (same-number p _ _ (word a l ∙ z))
+
+    -- of a Hadamard involution the blocks up to half the order with column 0 decide on MDS
+    pub half-is-enough : 1 ≤ k → sum (numbers p) (2 ^ k) (λ i. getD row i 0) ≡ 1
+        → isMds (numbers p) (elements p) (2 ^ k) (hadamard (numbers p) row)
+        ≡ regularUpTo (numbers p) (2 ^ k) (hadamard (numbers p) row) 2 (2 ^ (k - 1))
+    half-is-enough g one =
+        mds-carried p h (2 ^ k) _ _ entries
+        ∙ Squares.half-is-enough R L (all p) (complete p) k _ g (same-number p _ _ (sums ∙ one))
+        ∙ sym (regular-carried p h (2 ^ k) _ _ entries 2 (2 ^ (k - 1)))
+
+  -- ---- the row with its places moved
+
+  module _ (row : List ℕ) (below : WordsInField p (2 ^ k) row) (σ ρ : ℕ → ℕ) (v : Inverse (2 ^ k) σ ρ)
+      (affine : (i j : ℕ) → i < 2 ^ k → j < 2 ^ k → σ (bitXor i j) ≡ bitXor (bitXor (σ i) (σ j)) (σ 0)) where
+    -- the moved entries are elements
+    pub moved-below : WordsInField p (2 ^ k) (moved (numbers p) (2 ^ k) σ row)
+    unfolding WordsInField
+    moved-below i l = rw (getD-tabulate (2 ^ k) (λ i. getD row (σ i) 0) i 0 l) (below (σ i) (v .there i l))
+
+    -- as elements they are the elements moved
+    lifted-moved : lifted p (2 ^ k) (moved (numbers p) (2 ^ k) σ row) ≡ moved R (2 ^ k) σ (lifted p (2 ^ k) row)
+    unfolding lifted
+    lifted-moved =
+        tabulate-cong (2 ^ k) _ _ (λ i l.
+        ap (lift p) (getD-tabulate (2 ^ k) (λ i. getD row (σ i) 0) i 0 l)
+        ∙ sym (getD-tabulate (2 ^ k) (λ i. lift p (getD row i 0)) (σ i) (R .null) (v .there i l)))
+
+    moved-entries : (i j : ℕ) → i < 2 ^ k → j < 2 ^ k
+        → hadamard R (moved R (2 ^ k) σ (lifted p (2 ^ k) row)) i j .0 ≡ hadamard (numbers p) (moved (numbers p) (2 ^ k) σ row) i j
+    moved-entries i j l m = rw (← lifted-moved) (entries (moved (numbers p) (2 ^ k) σ row) moved-below i j l m)
+
+    -- the branch number stays
+    pub moved-row-branch : branchNumber (numbers p) (elements p) (2 ^ k) (hadamard (numbers p) (moved (numbers p) (2 ^ k) σ row))
+        ≡ branchNumber (numbers p) (elements p) (2 ^ k) (hadamard (numbers p) row)
+    moved-row-branch =
+        branch-carried p h (2 ^ k) _ _ moved-entries
+        ∙ branch-row R L k _ σ ρ v affine (all p) (complete p)
+        ∙ sym (branch-carried p h (2 ^ k) _ _ (entries row below))
+
+    -- the answer to MDS stays
+    pub moved-row-mds : isMds (numbers p) (elements p) (2 ^ k) (hadamard (numbers p) (moved (numbers p) (2 ^ k) σ row))
+        ≡ isMds (numbers p) (elements p) (2 ^ k) (hadamard (numbers p) row)
+    moved-row-mds =
+        mds-carried p h (2 ^ k) _ _ moved-entries
+        ∙ mds-row R L k _ σ ρ v affine (all p) (complete p)
+        ∙ sym (mds-carried p h (2 ^ k) _ _ (entries row below))
+
+    -- an involution's row stays one
+    pub moved-row-involution : isInvolution (numbers p) (elements p) (2 ^ k) (hadamard (numbers p) (moved (numbers p) (2 ^ k) σ row))
+        ≡ isInvolution (numbers p) (elements p) (2 ^ k) (hadamard (numbers p) row)
+    moved-row-involution =
+        involution-carried p h (2 ^ k) _ _ moved-entries
+        ∙ involution-row R L k _ σ ρ v affine (all p) (complete p)
+        ∙ sym (involution-carried p h (2 ^ k) _ _ (entries row below))
+
+  -- ---- the halved product
+
+  halved-elements : (h1 h0 v0 v1 : List (Residue p)) → length h1 ≡ 2 ^ k → length v0 ≡ 2 ^ k
+      → apply (numbers p) (2 ^ suc k) (hadamard (numbers p) (map (number p) h1 ++ map (number p) h0)) (map (number p) v0 ++ map (number p) v1)
+      ≡ half (numbers p) (2 ^ k) (map (number p) h1) (map (number p) h0) (map (number p) v0) (map (number p) v1) (map (number p) v1)
+      ++ half (numbers p) (2 ^ k) (map (number p) h1) (map (number p) h0) (map (number p) v0) (map (number p) v1) (map (number p) v0)
+  halved-elements h1 h0 v0 v1 e d =
+      sym (product-bridge R (numbers p) (number p) (number-keeps p h) (2 ^ suc k) (h1 ++ h0) (v0 ++ v1) _ _
+      (map-append (number p) h1 h0) (map-append (number p) v0 v1))
+      ∙ ap (map (number p)) (halved-product R L k h1 h0 v0 v1 e d)
+      ∙ map-append (number p) (half R (2 ^ k) h1 h0 v0 v1 v1) (half R (2 ^ k) h1 h0 v0 v1 v0)
+      ∙ ap₂ _++_ (half-bridge R (numbers p) (number p) (number-keeps p h) (2 ^ k) h1 h0 v0 v1 v1)
+      (half-bridge R (numbers p) (number p) (number-keeps p h) (2 ^ k) h1 h0 v0 v1 v0)
+
+  -- the product of twice the order by three products: with the row's sum and each half of the input, and with the input's sum
+  pub halved : (h1 h0 v0 v1 : List ℕ) → length h1 ≡ 2 ^ k → length h0 ≡ 2 ^ k → length v0 ≡ 2 ^ k → length v1 ≡ 2 ^ k
+      → WordsInField p (2 ^ k) h1 → WordsInField p (2 ^ k) h0 → WordsInField p (2 ^ k) v0 → WordsInField p (2 ^ k) v1
+      → apply (numbers p) (2 ^ suc k) (hadamard (numbers p) (h1 ++ h0)) (v0 ++ v1)
+      ≡ added (numbers p) (apply (numbers p) (2 ^ k) (hadamard (numbers p) (added (numbers p) h0 h1)) v1)
+      (apply (numbers p) (2 ^ k) (hadamard (numbers p) h1) (added (numbers p) v0 v1))
+      ++ added (numbers p) (apply (numbers p) (2 ^ k) (hadamard (numbers p) (added (numbers p) h0 h1)) v0)
+      (apply (numbers p) (2 ^ k) (hadamard (numbers p) h1) (added (numbers p) v0 v1))
+  halved h1 h0 v0 v1 e1 e0 d0 d1 b1 b0 c0 c1 =
+      rw (lift-words p (2 ^ k) h1 e1 b1, lift-words p (2 ^ k) h0 e0 b0, lift-words p (2 ^ k) v0 d0 c0, lift-words p (2 ^ k) v1 d1 c1) at
+      (halved-elements (map (lift p) h1) (map (lift p) h0) (map (lift p) v0) (map (lift p) v1)
+      (length-map h1 (lift p) ∙ e1) (length-map v0 (lift p) ∙ d0))
