@@ -1,0 +1,3 @@
+-- The definitions that the contracts of `answer` cite.
+pub mod Due
+pub mod Answered

@@ -1,0 +1,1 @@
+// One request text to one answer text.
