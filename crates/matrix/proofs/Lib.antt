@@ -3,3 +3,5 @@ pub mod Squares
 pub mod Residues
 pub mod Theorems
 pub mod Rows
+pub mod Filled
+pub mod Halving

@@ -1,61 +1,31 @@
--- Hadamard matrices over the numbers below 2^m: involution, MDS, moved rows, the halved product.
+-- Hadamard matrices over the numbers below 2^m: involution, MDS, moved rows.
 -- Assumes nothing.
 use mathlib.Core.Path.{_≡_, refl, sym, ap, ap₂, _∙_}
 use mathlib.Core.Bool.{true, false}
-use mathlib.Core.List.{List, [], _∷_, _++_, map, map-append}
+use mathlib.Core.List.{List, map}
 use mathlib.Core.Logic.{_≢_}
 use Prim.Native.Nat.{ℕ, suc, _-_, _^_, _≤_, _<_}
 use lib.Bits.{bitXor, xor-lt}
 use lib.Dec.{eqb}
-use lib.ListN.{length, getD, length-map}
+use lib.ListN.{getD}
 use borrow.Author.Tests.{eqb-true, eq-eqb}
 use Rattle.algebra.specs.Operations.{Operations, Field}
-use Rattle.algebra.specs.Matrix.{tabulate, sum, apply, hadamard, branchNumber, isMds, isInvolution}
+use Rattle.algebra.specs.Matrix.{tabulate, sum, hadamard, branchNumber, isMds, isInvolution}
 use Rattle.algebra.proofs.Words.{getD-tabulate, tabulate-cong}
 use Rattle.algebra.proofs.Sums.{Inverse}
-use Rattle.algebra.proofs.Weights.{added}
 use Rattle.algebra.proofs.Hadamard.{involution-sum, sum-involution, null-not-mds, equal-not-mds}
 use Rattle.algebra.proofs.Symmetry.{same-bool, moved, branch-row, mds-row, involution-row}
-use Rattle.algebra.proofs.Halves.{halved-product}
-use Rattle.algebra.proofs.Bridge.{Homomorphism, sum-bridge, apply-bridge, hadamard-bridge}
+use Rattle.algebra.proofs.Bridge.{sum-bridge, hadamard-bridge}
 use Rattle.field.specs.Polynomial.{Modulus}
 use Rattle.matrix.specs.Numbers.{numbers, elements, WordsInField}
 use Rattle.matrix.specs.Regular.{regularUpTo}
 use Rattle.matrix.proofs.Squares as Squares
-use Rattle.matrix.proofs.Residues.{Residue, number, lift, lift-number, same-number, lift-words, residueList as all, residues-complete as complete, residues, number-keeps, residues-field}
+use Rattle.matrix.proofs.Residues.{Residue, number, lift, lift-number, same-number, residueList as all, residues-complete as complete, residues, number-keeps, residues-field}
 use Rattle.matrix.proofs.Residues.{branch-carried, mds-carried, involution-carried, regular-carried}
 
 -- the first n entries of a row, as elements
 lifted : (p n : ℕ) → List ℕ → List (Residue p)
 lifted p n row = tabulate n (λ i. lift p (getD row i 0))
-
--- ---- the parts of the halved product
-
--- one half of the result, for one half v of the input
-abbrev half : (K : Operations) (n : ℕ) (h1 h0 v0 v1 v : List (K .Element)) → List (K .Element)
-half K n h1 h0 v0 v1 v = added K (apply K n (hadamard K (added K h0 h1)) v) (apply K n (hadamard K h1) (added K v0 v1))
-
-module _ (K M : Operations) (h : K .Element → M .Element) (H : Homomorphism K M h) where
-  -- a map that keeps the operations keeps sums of words
-  added-bridge : (x y : List (K .Element)) → map h (added K x y) ≡ added M (map h x) (map h y)
-  unfolding added
-  added-bridge [] y = refl
-  added-bridge (a ∷ x) [] = refl
-  added-bridge (a ∷ x) (b ∷ y) = ap₂ _∷_ (H .keeps-plus a b) (added-bridge x y)
-
-  -- Hadamard products
-  product-bridge : (n : ℕ) (row x : List (K .Element)) (row′ x′ : List (M .Element)) → map h row ≡ row′ → map h x ≡ x′
-      → map h (apply K n (hadamard K row) x) ≡ apply M n (hadamard M row′) x′
-  product-bridge n row x row′ x′ e d =
-      apply-bridge K M h H n _ _ (λ i j l m. hadamard-bridge K M h H row i j) x ∙ ap₂ (λ r v. apply M n (hadamard M r) v) e d
-
-  -- and the halves of the result
-  half-bridge : (n : ℕ) (h1 h0 v0 v1 v : List (K .Element))
-      → map h (half K n h1 h0 v0 v1 v) ≡ half M n (map h h1) (map h h0) (map h v0) (map h v1) (map h v)
-  half-bridge n h1 h0 v0 v1 v =
-      added-bridge _ _
-      ∙ ap₂ (added M) (product-bridge n (added K h0 h1) v _ _ (added-bridge h0 h1) refl)
-      (product-bridge n h1 (added K v0 v1) _ _ refl (added-bridge v0 v1))
 
 module _ (p : ℕ) (h : Modulus p) (k : ℕ) where
   -- the field of elements
@@ -163,30 +133,3 @@ module _ (p : ℕ) (h : Modulus p) (k : ℕ) where
         involution-carried p h (2 ^ k) _ _ moved-entries
         ∙ involution-row R L k _ σ ρ v affine (all p) (complete p)
         ∙ sym (involution-carried p h (2 ^ k) _ _ (entries row below))
-
-  -- ---- the halved product
-
-  halved-elements : (h1 h0 v0 v1 : List (Residue p)) → length h1 ≡ 2 ^ k → length v0 ≡ 2 ^ k
-      → apply (numbers p) (2 ^ suc k) (hadamard (numbers p) (map (number p) h1 ++ map (number p) h0)) (map (number p) v0 ++ map (number p) v1)
-      ≡ half (numbers p) (2 ^ k) (map (number p) h1) (map (number p) h0) (map (number p) v0) (map (number p) v1) (map (number p) v1)
-      ++ half (numbers p) (2 ^ k) (map (number p) h1) (map (number p) h0) (map (number p) v0) (map (number p) v1) (map (number p) v0)
-  halved-elements h1 h0 v0 v1 e d =
-      sym (product-bridge R (numbers p) (number p) (number-keeps p h) (2 ^ suc k) (h1 ++ h0) (v0 ++ v1) _ _
-      (map-append (number p) h1 h0) (map-append (number p) v0 v1))
-      ∙ ap (map (number p)) (halved-product R L k h1 h0 v0 v1 e d)
-      ∙ map-append (number p) (half R (2 ^ k) h1 h0 v0 v1 v1) (half R (2 ^ k) h1 h0 v0 v1 v0)
-      ∙ ap₂ _++_ (half-bridge R (numbers p) (number p) (number-keeps p h) (2 ^ k) h1 h0 v0 v1 v1)
-      (half-bridge R (numbers p) (number p) (number-keeps p h) (2 ^ k) h1 h0 v0 v1 v0)
-
-  -- the product of twice the order by three products: with the row's sum and each half of the input, and with the input's sum
-  pub halved : (h1 h0 v0 v1 : List ℕ) → length h1 ≡ 2 ^ k → length h0 ≡ 2 ^ k → length v0 ≡ 2 ^ k → length v1 ≡ 2 ^ k
-      → WordsInField p (2 ^ k) h1 → WordsInField p (2 ^ k) h0 → WordsInField p (2 ^ k) v0 → WordsInField p (2 ^ k) v1
-      → apply (numbers p) (2 ^ suc k) (hadamard (numbers p) (h1 ++ h0)) (v0 ++ v1)
-      ≡ added (numbers p) (apply (numbers p) (2 ^ k) (hadamard (numbers p) (added (numbers p) h0 h1)) v1)
-      (apply (numbers p) (2 ^ k) (hadamard (numbers p) h1) (added (numbers p) v0 v1))
-      ++ added (numbers p) (apply (numbers p) (2 ^ k) (hadamard (numbers p) (added (numbers p) h0 h1)) v0)
-      (apply (numbers p) (2 ^ k) (hadamard (numbers p) h1) (added (numbers p) v0 v1))
-  halved h1 h0 v0 v1 e1 e0 d0 d1 b1 b0 c0 c1 =
-      rw (lift-words p (2 ^ k) h1 e1 b1, lift-words p (2 ^ k) h0 e0 b0, lift-words p (2 ^ k) v0 d0 c0, lift-words p (2 ^ k) v1 d1 c1) at
-      (halved-elements (map (lift p) h1) (map (lift p) h0) (map (lift p) v0) (map (lift p) v1)
-      (length-map h1 (lift p) ∙ e1) (length-map v0 (lift p) ∙ d0))

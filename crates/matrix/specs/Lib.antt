@@ -1,5 +1,6 @@
 -- The definitions that the contracts of `matrix` cite.
 pub mod Numbers
 pub mod Counts
+pub mod Orders
 pub mod Regular
 pub mod Answers
