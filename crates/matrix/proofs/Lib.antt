@@ -5,3 +5,6 @@ pub mod Theorems
 pub mod Rows
 pub mod Filled
 pub mod Halving
+pub mod Minors
+pub mod Selections
+pub mod Regularity

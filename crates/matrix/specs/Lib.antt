@@ -2,5 +2,6 @@
 pub mod Numbers
 pub mod Counts
 pub mod Orders
+pub mod Choice
 pub mod Regular
 pub mod Answers

@@ -1,0 +1,80 @@
+-- The block that is left without a line and a column, and the determinant of numbers. Assumes nothing.
+use mathlib.Core.Path.{_≡_, refl, sym, ap, ap₂, _∙_}
+use mathlib.Core.List.{List}
+use Prim.Native.Nat.{ℕ, zero, suc, _+_, _-_, _^_, _≤_, _<_}
+use native.Mathlib.Nat.{not-suc-le-zero, le-of-suc-le-suc}
+use native.Mathlib.Numerals.{add-one}
+use native.Mathlib.Omega.{arith}
+use borrow.Author.Count.{below-more}
+use lib.ListN.{length, getD, set}
+use lib.Seq.{getD-set-same, getD-set-other}
+use lib.Bits.{bitXor}
+use Rattle.algebra.specs.Matrix.{sum, skip, without, det}
+use Rattle.algebra.proofs.Bridge.{skip-lt, det-cong}
+use Rattle.field.specs.Polynomial.{Modulus, degree, product, _⊕_}
+use Rattle.field.proofs.Sum.{sum-zero-l}
+use Rattle.field.proofs.Degrees.{polynomial}
+use Rattle.field.proofs.Field.{times-one-r}
+use Rattle.matrix.specs.Numbers.{numbers, entry, InField}
+
+-- ---- a line without a column
+
+-- the columns before column j stay
+pub skip-before : (j k : ℕ) → k < j → skip j k ≡ k
+unfolding skip
+skip-before zero k l = absurd (not-suc-le-zero l)
+skip-before (suc j) zero l = refl
+skip-before (suc j) (suc k) l = ap suc (skip-before j k (le-of-suc-le-suc l))
+
+-- those behind it move up by one
+pub skip-behind : (j k : ℕ) → j ≤ k → skip j k ≡ suc k
+unfolding skip
+skip-behind zero k l = refl
+skip-behind (suc j) zero l = absurd (not-suc-le-zero l)
+skip-behind (suc j) (suc k) l = ap suc (skip-behind j k (le-of-suc-le-suc l))
+
+-- a list filled up to place k: one more store keeps what is there, and adds place k
+pub stored-more : {A : Type 0} (P : ℕ → A → Type 0) (r : List A) (k : ℕ) (a d : A) → k < length r → ((i : ℕ) → i < k → P i (getD r i d)) → P k a
+    → (i : ℕ) → i < k + 1 → P i (getD (set r k a) i d)
+stored-more P r k a d h before now =
+    below-more (λ i. P i (getD (set r k a) i d)) k (λ i l. rw (getD-set-other r k i a d (λ e. omega arith)) (before i l)) (rw (getD-set-same r k a d h) now)
+
+-- ---- the determinant
+
+-- the sum over the first k columns of the first line: each entry times the determinant of the block left, of order m
+unfoldable pub firstLine : ℕ → ℕ → (ℕ → ℕ → ℕ) → ℕ → ℕ
+firstLine p m f k = sum (numbers p) k (λ j. product p (f 0 j) (det (numbers p) m (without f j)))
+
+pub first-line-none : (p m : ℕ) (f : ℕ → ℕ → ℕ) → 0 ≡ firstLine p m f 0
+unfolding firstLine sum
+first-line-none p m f = refl
+
+-- one column more, whose block is g
+pub first-line-more : (p m : ℕ) (f g : ℕ → ℕ → ℕ) (j r d s : ℕ) → r ≡ firstLine p m f j → d ≡ det (numbers p) m g
+    → ((i k : ℕ) → i < m → k < m → g i k ≡ without f j i k) → s ≡ product p (f 0 j) d → bitXor r s ≡ firstLine p m f (j + 1)
+unfolding firstLine sum _⊕_
+first-line-more p m f g j r d s er ed eg es =
+    rw (add-one j) (ap₂ bitXor er (es ∙ ap (product p (f 0 j)) (ed ∙ det-cong (numbers p) m g (without f j) eg)))
+
+-- over all columns it is the determinant
+pub first-line-all : (p n : ℕ) (f : ℕ → ℕ → ℕ) → 1 ≤ n → firstLine p (n - 1) f n ≡ det (numbers p) n f
+unfolding firstLine det
+first-line-all p zero f h = absurd (not-suc-le-zero h)
+first-line-all p (suc m) f h = let e : suc m - 1 ≡ m = omega arith in rw e refl
+
+-- of the empty block
+pub det-none : (p : ℕ) (f : ℕ → ℕ → ℕ) → 1 ≡ det (numbers p) 0 f
+unfolding det
+det-none p f = refl
+
+-- of a single entry
+pub det-single : (p : ℕ) (f : ℕ → ℕ → ℕ) → Modulus p → f 0 0 < 2 ^ degree p → f 0 0 ≡ det (numbers p) 1 f
+unfolding det sum
+det-single p f h l = sym (sum-zero-l (product p (f 0 0) 1) ∙ times-one-r p (degree p) (polynomial p h .has) (f 0 0) l)
+
+-- the entries of the block left are elements
+pub minor-in-field : (p n j : ℕ) (block r : List (List ℕ)) → 1 ≤ n → n ≤ 8 → InField p n n block
+    → ((i k : ℕ) → i + 1 < n → k < 7 → entry r i k ≡ without (entry block) j i k) → InField p (n - 1) (n - 1) r
+unfolding InField without
+minor-in-field p n j block r low high inside e i k l m =
+    rw (e i k (omega arith) (omega arith)) (inside (suc i) (skip j k) (omega arith) (omega (arith, skip-lt j k (n - 1) m)))

@@ -1,0 +1,81 @@
+-- `matrix::block::without_column` meets its contract: the columns before k are in place. Assumes nothing.
+use mathlib.Core.Path.{_≡_, sym, ap, _∙_}
+use Prim.Native.Nat.{ℕ, _+_, _-_, _≤_, _<_}
+use native.Mathlib.Nat.{le-refl, lt-of-lt-of-le}
+use native.Mathlib.Numerals.{add-one}
+use native.Mathlib.Omega.{arith}
+use lib.ListN.{length, getD, length-set}
+use Rattle.algebra.specs.Matrix.{skip}
+use Rattle.matrix.proofs.Minors.{skip-before, skip-behind, stored-more}
+use borrow.Author.Needs.{needs}
+use Rattle.matrix.proofs.block.without_column.Statement.{statement}
+use Rattle.matrix.proofs.block.without_column.Tie as tie
+use Rattle.matrix.proofs.block.without_column.Reads as reads
+use Rattle.matrix.proofs.block.without_column.Lts as lts
+
+abbrev Inv-loop : tie.InvT-loop
+Inv-loop j line r₀ k₀ r k = (j ≤ k) × (k ≤ 7) × (length r ≡ 8) × ((i : ℕ) → i < k → getD r i 0 ≡ getD line (skip j i) 0)
+
+abbrev μ-loop : tie.MeasureT-loop
+μ-loop j line r₀ k₀ r k = 7 - k
+
+-- src/block.rt:17:5
+loop-holds : tie.Need-loop-holds Inv-loop μ-loop
+loop-holds c =
+    let line = c .args .t1 in
+    let eight : length line ≡ 8 = search needs in
+    (le-refl _, c .pre, eight, λ i l. ap (λ (n : ℕ). getD line n 0) (sym (skip-before (c .args .j) i l)))
+
+-- src/block.rt:18:21
+add-r : tie.Need-add-r Inv-loop μ-loop
+add-r c = search needs
+
+-- src/block.rt:18:16
+array-read-r : tie.Need-array-read-r Inv-loop μ-loop
+array-read-r c = search needs
+
+-- src/block.rt:18:9
+array-write-r : tie.Need-array-write-r Inv-loop μ-loop
+array-write-r c = search needs
+
+-- src/block.rt:19:9
+add-k : tie.Need-add-k Inv-loop μ-loop
+add-k c = search needs
+
+-- src/block.rt:17:5
+loop-less : tie.Need-loop-less Inv-loop μ-loop
+loop-less c = search needs
+
+-- src/block.rt:17:5
+loop-again : tie.Need-loop-again Inv-loop μ-loop
+loop-again c =
+    let line = c .before .before .args .t1 in
+    let j = c .before .before .args .j in
+    let r = c .before .loop .r in
+    let k = c .before .loop .k in
+    let inv = c .before .loop .inv in (
+      omega arith,
+      omega arith,
+      length-set r k _ ∙ inv .2,
+      stored-more (λ i x. x ≡ getD line (skip j i) 0) r k (getD line (k + 1) 0) 0 (omega arith) (inv .3)
+          (ap (λ (n : ℕ). getD line n 0) (add-one k ∙ sym (skip-behind j k (inv .0)))),
+    )
+
+-- src/block.rt:11:1
+returns : tie.Need-returns Inv-loop μ-loop
+returns c = λ k l. c .before .loop .inv .3 k (lt-of-lt-of-le l (c .loop-test .left))
+
+pub without-column-spec : {M : Type 1} → statement M
+without-column-spec =
+    tie.close
+    (tie.spec
+    Inv-loop
+    μ-loop
+    loop-holds
+    add-r
+    array-read-r
+    array-write-r
+    add-k
+    loop-less
+    loop-again
+    returns)
