@@ -8,3 +8,9 @@ pub mod Halving
 pub mod Minors
 pub mod Selections
 pub mod Regularity
+pub mod Tallies
+pub mod Elimination
+pub mod Masks
+pub mod Trials
+pub mod Least
+pub mod Units

@@ -3,5 +3,7 @@ pub mod Numbers
 pub mod Counts
 pub mod Orders
 pub mod Choice
+pub mod Pairs
+pub mod Identity
 pub mod Regular
 pub mod Answers

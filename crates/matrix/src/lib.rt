@@ -1,4 +1,7 @@
 // Matrices over the field of a polynomial. A matrix or a block is an array of arrays, of which the first lines and columns count.
 
 pub mod block;
+pub mod branch;
+pub mod count;
+pub mod involution;
 pub mod multiply;

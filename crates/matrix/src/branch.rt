@@ -1,0 +1,193 @@
+// The branch number, by elimination.
+
+ghost use mathlib.Core.Path.{_≡_};
+ghost use mathlib.Core.Bool.{not};
+ghost use mathlib.Core.List.{[]};
+ghost use Prim.Native.Nat.{ℕ, _+_, _-_, _/_, _%_, _^_, _≤_, _<_};
+ghost use lib.Dec.{eqb};
+ghost use lib.ListN.{length, getD};
+ghost use Rattle.algebra.specs.Matrix.{skip, chosen, branchNumber};
+ghost use Rattle.algebra.proofs.Kernel.{cleared, hasKernel};
+ghost use Rattle.field.specs.Polynomial.{_⊕_, Modulus, firstBelow, product};
+ghost use Rattle.matrix.specs.Pairs.{lowered, linesKernel, overLines};
+ghost use Rattle.matrix.specs.Numbers.{numbers, elements, entry, InField, WordsInField};
+
+// The first of the r lines whose entry in column 0 is not 0, or r.
+fn pivot(block: [[u8; 8]; 8], r: usize) -> usize
+    requires { ⌜ r ≤ 8 ⌝ }
+    ensures { λ k. ⌜ k ≡ firstBelow r (λ i. not (eqb (entry block i 0) 0)) ⌝ }
+{
+    let mut i = 0;
+    while i < r {
+        if block[i][0] != 0 {
+            return i;
+        }
+        i += 1;
+    }
+    r
+}
+
+// The i-th of the lines that are left without line k.
+fn other_line(k: usize, i: usize) -> usize
+    requires { ⌜ i < 8 ⌝ }
+    ensures { λ r. ⌜ r ≡ skip k i ⌝ }
+{
+    if i < k { i } else { i + 1 }
+}
+
+// A line cleared by the pivot's: its entry in column 0 vanishes and is left out.
+fn cleared_line(p: u16, first: [u8; 8], line: [u8; 8], c: usize) -> [u8; 8]
+    requires { ⌜ Modulus p × (1 ≤ c) × (c ≤ 8) × WordsInField p c first × WordsInField p c line ⌝ }
+    ensures { λ r. ⌜ ((j : ℕ) → j + 1 < c
+        → getD r j 0 ≡ product p (getD first 0 0) (getD line (j + 1) 0) ⊕ product p (getD line 0 0) (getD first (j + 1) 0)) ⌝ }
+{
+    let a = first[0];
+    let b = line[0];
+    let mut r = [0; 8];
+    let mut j = 0;
+    while j + 1 < c {
+        r[j] = field::product(p, a, line[j + 1]) ^ field::product(p, b, first[j + 1]);
+        j += 1;
+    }
+    r
+}
+
+// The block that is left when column 0 is cleared by line k: without that line and that column.
+fn cleared(p: u16, block: [[u8; 8]; 8], r: usize, c: usize, k: usize) -> [[u8; 8]; 8]
+    requires { ⌜ Modulus p × (k < r) × (r ≤ 8) × (1 ≤ c) × (c ≤ 8) × InField p r c block ⌝ }
+    ensures { λ b. ⌜ ((i j : ℕ) → i + 1 < r → j + 1 < c → entry b i j ≡ cleared (numbers p) (entry block) k i j) ⌝ }
+{
+    let first = block[k];
+    let mut b = [[0; 8]; 8];
+    let mut i = 0;
+    while i + 1 < r {
+        let line = block[other_line(k, i)];
+        let next = cleared_line(p, first, line, c);
+        b[i] = next;
+        i += 1;
+    }
+    b
+}
+
+// Whether some input of c words that is not zero goes to zero in all r lines.
+pub fn has_kernel(p: u16, block: [[u8; 8]; 8], c: usize, r: usize) -> bool
+    requires { ⌜ Modulus p × (r ≤ 8) × (c ≤ 8) × InField p r c block ⌝ }
+    ensures { λ b. ⌜ b ≡ hasKernel (numbers p) c r (entry block) ⌝ }
+{
+    if c == 0 {
+        return false;
+    }
+    let k = pivot(block, r);
+    if k == r {
+        return true;
+    }
+    let next = cleared(p, block, r, c, k);
+    has_kernel(p, next, c - 1, r - 1)
+}
+
+// Digit i of a mask.
+fn digit(mask: u16, i: usize) -> usize
+    requires { ⌜ i < 16 ⌝ }
+    ensures { λ r. ⌜ r ≡ mask / 2 ^ i % 2 ⌝ }
+{
+    (mask >> i & 1) as usize
+}
+
+// The words of a line that a mask chooses: each word is stored behind those chosen, and stays where its digit is 1.
+fn chosen_words(line: [u8; 8], n: usize, mask: u16) -> [u8; 8]
+    requires { ⌜ n ≤ 8 ⌝ }
+    ensures { λ r. ⌜ ((j : ℕ) → j < length (chosen n mask) → getD r j 0 ≡ getD line (getD (chosen n mask) j 0) 0) ⌝ }
+{
+    let mut r = [0; 8];
+    let mut k = 0usize;
+    let mut i = 0usize;
+    while i < n {
+        r[k] = line[i];
+        k += digit(mask, i);
+        i += 1;
+    }
+    r
+}
+
+// The columns that a mask chooses.
+fn chosen_columns(m: [[u8; 8]; 8], n: usize, mask: u16) -> [[u8; 8]; 8]
+    requires { ⌜ n ≤ 8 ⌝ }
+    ensures { λ r. ⌜ ((i j : ℕ) → i < n → j < length (chosen n mask) → entry r i j ≡ entry m i (getD (chosen n mask) j 0)) ⌝ }
+{
+    let mut r = [[0; 8]; 8];
+    let mut i = 0;
+    while i < n {
+        let line = chosen_words(m[i], n, mask);
+        r[i] = line;
+        i += 1;
+    }
+    r
+}
+
+// The lines that a mask chooses, in the same way as the words.
+fn chosen_lines(m: [[u8; 8]; 8], n: usize, mask: u16) -> [[u8; 8]; 8]
+    requires { ⌜ n ≤ 8 ⌝ }
+    ensures { λ r. ⌜ ((i : ℕ) → i < length (chosen n mask) → getD r i [] ≡ getD m (getD (chosen n mask) i 0) []) ⌝ }
+{
+    let mut r = [[0; 8]; 8];
+    let mut k = 0usize;
+    let mut i = 0usize;
+    while i < n {
+        let line = m[i];
+        r[k] = line;
+        k += digit(mask, i);
+        i += 1;
+    }
+    r
+}
+
+// The best so far, or the c columns and the lines left out, where that is less and the chosen lines send an input that is not zero to zero.
+fn tried(p: u16, narrow: [[u8; 8]; 8], n: usize, c: usize, lines: u16, best: usize) -> usize
+    requires { ⌜ Modulus p × (n ≤ 8) × (c ≤ 8) × InField p n c narrow × (lines < 2 ^ n) ⌝ }
+    ensures { λ r. ⌜ r ≡ lowered (linesKernel (numbers p) n c (entry narrow) lines) (c + (n - length (chosen n lines))) best ⌝ }
+{
+    let r = u16::count_ones(lines) as usize;
+    let size = c + (n - r);
+    if best <= size {
+        return best;
+    }
+    let block = chosen_lines(narrow, n, lines);
+    if has_kernel(p, block, c, r) {
+        size
+    } else {
+        best
+    }
+}
+
+// The same for all choices of lines.
+fn over_lines(p: u16, narrow: [[u8; 8]; 8], n: usize, c: usize, best: usize) -> usize
+    requires { ⌜ Modulus p × (n ≤ 8) × (c ≤ 8) × InField p n c narrow ⌝ }
+    ensures { λ r. ⌜ r ≡ overLines (numbers p) n c (entry narrow) (2 ^ n) best ⌝ }
+{
+    let end: u16 = 1 << n;
+    let mut least = best;
+    let mut lines: u16 = 0;
+    while lines < end {
+        least = tried(p, narrow, n, c, lines, least);
+        lines += 1;
+    }
+    least
+}
+
+// The branch number: the least, over choices of columns and lines, of the columns and the lines left out, where the chosen lines send
+// an input over the chosen columns that is not zero to zero.
+pub fn branch_number(p: u16, m: [[u8; 8]; 8], n: usize) -> usize
+    requires { ⌜ Modulus p × (1 ≤ n) × (n ≤ 8) × InField p n n m ⌝ }
+    ensures { λ r. ⌜ r ≡ branchNumber (numbers p) (elements p) n (entry m) ⌝ }
+{
+    let end: u16 = 1 << n;
+    let mut best = n + 1;
+    let mut columns: u16 = 1;
+    while columns < end {
+        let c = u16::count_ones(columns) as usize;
+        let narrow = chosen_columns(m, n, columns);
+        best = over_lines(p, narrow, n, c, best);
+        columns += 1;
+    }
+    best
+}
