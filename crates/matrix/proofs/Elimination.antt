@@ -42,22 +42,6 @@ line-below p (suc r) u = at (eqb (u 0) 0) (line-below p r (λ i. u (suc i)))
 pub pivot-first : (p r : ℕ) (u : ℕ → ℕ) (k : ℕ) → k ≡ firstBelow r (λ i. not (eqb (u i) 0)) → First (numbers p) r u k
 pivot-first p r u k e = rw (e ∙ sym (line-below p r u)) (firstLine-first (numbers p) r u)
 
--- ---- the lines that are left
-
--- the lines before line k stay
-pub skip-before : (k i : ℕ) → i < k → skip k i ≡ i
-unfolding skip
-skip-before zero i l = absurd (not-suc-le-zero l)
-skip-before (suc k) zero l = refl
-skip-before (suc k) (suc i) l = ap suc (skip-before k i (le-of-suc-le-suc l))
-
--- those behind it move up by one
-pub skip-behind : (k i : ℕ) → k ≤ i → skip k i ≡ suc i
-unfolding skip
-skip-behind zero i l = refl
-skip-behind (suc k) zero l = absurd (not-suc-le-zero l)
-skip-behind (suc k) (suc i) l = ap suc (skip-behind k i (le-of-suc-le-suc l))
-
 -- ---- the cleared block
 
 -- an entry, by the pivot's line v and the line u
@@ -74,14 +58,6 @@ cleared-lt p h f k i j =
     sum-lt (degree p) (product p (f k 0) (f (skip k i) (suc j))) (product p (f (skip k i) 0) (f k (suc j)))
     (times-lt p (degree p) d (f k 0) (f (skip k i) (suc j)))
     (times-lt p (degree p) d (f (skip k i) 0) (f k (suc j)))
-
--- a list filled up to place k: one more store keeps what is there, and adds place k
-pub stored-more : {A : Type 0} (P : ℕ → A → Type 0) (r : List A) (k : ℕ) (a d : A) → k < length r
-    → ((i : ℕ) → i < k → P i (getD r i d)) → P k a → (i : ℕ) → i < k + 1 → P i (getD (set r k a) i d)
-stored-more P r k a d h before now =
-    below-more (λ i. P i (getD (set r k a) i d)) k
-    (λ i l. rw (getD-set-other r k i a d (λ e. omega arith)) (before i l))
-    (rw (getD-set-same r k a d h) now)
 
 -- ---- the recursion
 

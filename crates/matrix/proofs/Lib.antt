@@ -10,7 +10,6 @@ pub mod Selections
 pub mod Regularity
 pub mod Tallies
 pub mod Elimination
-pub mod Masks
 pub mod Trials
 pub mod Least
 pub mod Units

@@ -1,40 +1,28 @@
 -- A matrix is an involution exactly if it times itself is the identity, tested entry by entry. Assumes nothing.
-use mathlib.Core.Path.{_≡_, refl, sym, ap₂, _∙_}
+use mathlib.Core.Path.{_≡_, sym, _∙_}
 use mathlib.Core.Bool.{Bool, true, false, false≢true}
-use Prim.Native.Nat.{ℕ, _+_, _^_, _<_}
-use native.Mathlib.Numerals.{add-one}
+use Prim.Native.Nat.{ℕ, _^_, _<_}
 use borrow.Author.Tests.{eq-eqb, eqb-true}
-use lib.Bits.{bitXor}
-use Rattle.algebra.specs.Matrix.{sum, isInvolution}
-use Rattle.field.specs.Polynomial.{_⊕_, Modulus, degree}
+use Rattle.algebra.specs.Matrix.{isInvolution}
+use Rattle.algebra.proofs.Symmetry.{same-bool}
+use Rattle.field.specs.Polynomial.{Modulus, degree}
 use Rattle.matrix.specs.Identity.{unit, squareEntry, isUnitLine}
 use Rattle.matrix.specs.Numbers.{numbers, elements}
 use Rattle.matrix.specs.Regular.{everyBelow}
 use Rattle.matrix.proofs.Squares.{every-each, each-every}
 use Rattle.matrix.proofs.Theorems.{involution-is-identity, identity-is-involution}
 
--- one product more is added
-pub square-more : (p k : ℕ) (f : ℕ → ℕ) (r v : ℕ) → r ≡ sum (numbers p) k f → v ≡ f k → bitXor r v ≡ sum (numbers p) (k + 1) f
-unfolding sum _⊕_
-square-more p k f r v e d = rw (add-one k) (ap₂ bitXor e d)
-
--- two tests that pass together are the same
-same-test : (a b : Bool) → (a ≡ true → b ≡ true) → (b ≡ true → a ≡ true) → a ≡ b
-same-test true b f g = sym (f refl)
-same-test false true f g = g refl
-same-test false false f g = refl
-
 -- one that fails
 pub every-not : (n : ℕ) (test : ℕ → Bool) (k : ℕ) → k < n → test k ≡ false → false ≡ everyBelow n test
 every-not n test k l e =
-    same-test false (everyBelow n test) (λ q. absurd (false≢true q)) (λ q. sym e ∙ every-each n test q k l)
+    same-bool false (everyBelow n test) (λ q. absurd (false≢true q)) (λ q. sym e ∙ every-each n test q k l)
 
 -- every line is that of the identity
 pub units-involution : (p : ℕ) → Modulus p → (n : ℕ) (f : ℕ → ℕ → ℕ) → ((i j : ℕ) → i < n → j < n → f i j < 2 ^ degree p)
     → everyBelow n (isUnitLine p n f) ≡ isInvolution (numbers p) (elements p) n f
 unfolding isUnitLine squareEntry unit
 units-involution p h n f below =
-    same-test (everyBelow n (isUnitLine p n f)) (isInvolution (numbers p) (elements p) n f)
+    same-bool (everyBelow n (isUnitLine p n f)) (isInvolution (numbers p) (elements p) n f)
     (λ q.
     identity-is-involution p h n f below
     (λ i j l m. eqb-true (squareEntry p n f i j) (unit i j) (every-each n _ (every-each n (isUnitLine p n f) q i l) j m)))

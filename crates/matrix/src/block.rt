@@ -120,15 +120,6 @@ pub fn chosen_columns(m: [[u8; 8]; 8], n: usize, columns: u16) -> [[u8; 8]; 8]
     r
 }
 
-// The block of the chosen lines and columns.
-pub fn select(m: [[u8; 8]; 8], n: usize, lines: u16, columns: u16) -> [[u8; 8]; 8]
-    requires { ⌜ (n ≤ 8) × (lines < 2 ^ n) × (columns < 2 ^ n) ⌝ }
-    ensures { λ r. ⌜ ((i j : ℕ) → i < length (chosen n lines) → j < length (chosen n columns)
-        → entry r i j ≡ block (entry m) (chosen n lines) (chosen n columns) i j) ⌝ }
-{
-    chosen_columns(chosen_lines(m, lines), n, columns)
-}
-
 // The next choice of k lines or columns: the first of the masks from, from + step, .. that has k ones or is not below end.
 fn next_choice(from: u16, step: u16, end: u16, k: usize) -> u16
     requires { ⌜ (1 ≤ step) × (step ≤ 2) × (end ≤ 256) ⌝ }

@@ -1,9 +1,10 @@
 // The branch number, by elimination.
 
+use crate::block::chosen_columns;
+use crate::block::chosen_lines;
 ghost use mathlib.Core.Path.{_≡_};
 ghost use mathlib.Core.Bool.{not};
-ghost use mathlib.Core.List.{[]};
-ghost use Prim.Native.Nat.{ℕ, _+_, _-_, _/_, _%_, _^_, _≤_, _<_};
+ghost use Prim.Native.Nat.{ℕ, _+_, _-_, _^_, _≤_, _<_};
 ghost use lib.Dec.{eqb};
 ghost use lib.ListN.{length, getD};
 ghost use Rattle.algebra.specs.Matrix.{skip, chosen, branchNumber};
@@ -85,62 +86,6 @@ pub fn has_kernel(p: u16, block: [[u8; 8]; 8], c: usize, r: usize) -> bool
     has_kernel(p, next, c - 1, r - 1)
 }
 
-// Digit i of a mask.
-fn digit(mask: u16, i: usize) -> usize
-    requires { ⌜ i < 16 ⌝ }
-    ensures { λ r. ⌜ r ≡ mask / 2 ^ i % 2 ⌝ }
-{
-    (mask >> i & 1) as usize
-}
-
-// The words of a line that a mask chooses: each word is stored behind those chosen, and stays where its digit is 1.
-fn chosen_words(line: [u8; 8], n: usize, mask: u16) -> [u8; 8]
-    requires { ⌜ n ≤ 8 ⌝ }
-    ensures { λ r. ⌜ ((j : ℕ) → j < length (chosen n mask) → getD r j 0 ≡ getD line (getD (chosen n mask) j 0) 0) ⌝ }
-{
-    let mut r = [0; 8];
-    let mut k = 0usize;
-    let mut i = 0usize;
-    while i < n {
-        r[k] = line[i];
-        k += digit(mask, i);
-        i += 1;
-    }
-    r
-}
-
-// The columns that a mask chooses.
-fn chosen_columns(m: [[u8; 8]; 8], n: usize, mask: u16) -> [[u8; 8]; 8]
-    requires { ⌜ n ≤ 8 ⌝ }
-    ensures { λ r. ⌜ ((i j : ℕ) → i < n → j < length (chosen n mask) → entry r i j ≡ entry m i (getD (chosen n mask) j 0)) ⌝ }
-{
-    let mut r = [[0; 8]; 8];
-    let mut i = 0;
-    while i < n {
-        let line = chosen_words(m[i], n, mask);
-        r[i] = line;
-        i += 1;
-    }
-    r
-}
-
-// The lines that a mask chooses, in the same way as the words.
-fn chosen_lines(m: [[u8; 8]; 8], n: usize, mask: u16) -> [[u8; 8]; 8]
-    requires { ⌜ n ≤ 8 ⌝ }
-    ensures { λ r. ⌜ ((i : ℕ) → i < length (chosen n mask) → getD r i [] ≡ getD m (getD (chosen n mask) i 0) []) ⌝ }
-{
-    let mut r = [[0; 8]; 8];
-    let mut k = 0usize;
-    let mut i = 0usize;
-    while i < n {
-        let line = m[i];
-        r[k] = line;
-        k += digit(mask, i);
-        i += 1;
-    }
-    r
-}
-
 // The best so far, or the c columns and the lines left out, where that is less and the chosen lines send an input that is not zero to zero.
 fn tried(p: u16, narrow: [[u8; 8]; 8], n: usize, c: usize, lines: u16, best: usize) -> usize
     requires { ⌜ Modulus p × (n ≤ 8) × (c ≤ 8) × InField p n c narrow × (lines < 2 ^ n) ⌝ }
@@ -151,7 +96,7 @@ fn tried(p: u16, narrow: [[u8; 8]; 8], n: usize, c: usize, lines: u16, best: usi
     if best <= size {
         return best;
     }
-    let block = chosen_lines(narrow, n, lines);
+    let block = chosen_lines(narrow, lines);
     if has_kernel(p, block, c, r) {
         size
     } else {

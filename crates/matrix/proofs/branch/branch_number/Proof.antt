@@ -5,13 +5,13 @@ use native.Mathlib.Nat.{le-trans}
 use native.Mathlib.Numerals.{add-one}
 use native.Mathlib.Omega.{arith}
 use lib.Count.{ones, ones-le}
-use lib.ListN.{length}
+use lib.ListN.{length, getD}
 use lib.Pow.{pow-pos}
 use borrow.Author.Needs.{needs}
 use Rattle.algebra.specs.Matrix.{chosen}
 use Rattle.matrix.specs.Numbers.{numbers, entry, InField}
 use Rattle.matrix.specs.Pairs.{overPairs}
-use Rattle.matrix.proofs.Masks.{chosen-ones}
+use Rattle.matrix.proofs.Selections.{chosen-among, chosen-ones, mask-fits}
 use Rattle.matrix.proofs.Trials.{shifted, columns-in-field, pairs-more, pairs-one}
 use Rattle.matrix.proofs.Least.{pairs-branch}
 use Rattle.matrix.proofs.branch.branch_number.Statement.{statement}
@@ -48,13 +48,22 @@ few c = le-trans (ones-le (c .before .before .args .n) (c .before .loop .columns
 
 -- as many columns as it has ones
 sized : (c : tie.In-loop Inv-loop μ-loop) → ones (c .before .loop .columns) ≡ length (chosen (c .before .before .args .n) (c .before .loop .columns))
-sized c = chosen-ones (c .before .before .args .n) (c .before .loop .columns) (inside c)
+sized c = sym (chosen-ones (c .before .before .args .n) (c .before .loop .columns) (inside c))
 
 cast-c : tie.Need-cast-c Inv-loop μ-loop
 cast-c c = record { fits = omega (arith, few c) }
 
 chosen-columns-requires : tie.Need-chosen-columns-requires Inv-loop μ-loop
-chosen-columns-requires c κs = search needs
+chosen-columns-requires c κs =
+    (c .before .before .pre .2, mask-fits (c .before .before .args .n) (c .before .loop .columns) (c .before .before .pre .2) (inside c))
+
+-- the columns that are chosen
+picked : (c : tie.After-chosen-columns Inv-loop μ-loop) → (i j : ℕ) → i < c .before .before .before .args .n
+    → j < length (chosen (c .before .before .before .args .n) (c .before .before .loop .columns))
+    → entry (c .chosen-columns .result) i j ≡ entry (c .before .before .before .args .m) i (getD (chosen (c .before .before .before .args .n) (c .before .before .loop .columns)) j 0)
+picked c =
+    rw (chosen-among (c .before .before .before .args .n) (c .before .before .loop .columns) (c .before .before .before .pre .2) (inside (c .before))) at
+    (c .chosen-columns .ensures)
 
 over-lines-requires : tie.Need-over-lines-requires Inv-loop μ-loop
 over-lines-requires c κs =
@@ -65,7 +74,7 @@ over-lines-requires c κs =
       few (c .before),
       rw (sized (c .before))
           (columns-in-field (args .p) (args .n) (c .before .before .loop .columns) (args .m) (c .chosen-columns .result)
-          (start .pre .3) (c .chosen-columns .ensures)),
+          (start .pre .3) (picked c)),
     )
 
 add-columns : tie.Need-add-columns Inv-loop μ-loop
@@ -81,7 +90,7 @@ loop-again c =
       omega arith,
       pairs-more (numbers (args .p)) (args .n) (entry (args .m)) (entry (c .before .chosen-columns .result)) (loop .columns)
           (ones (loop .columns)) (suc (args .n)) (loop .best) (c .over-lines .result)
-          (sized (c .before .before)) (c .before .chosen-columns .ensures) (loop .inv .1) (c .over-lines .ensures),
+          (sized (c .before .before)) (picked (c .before)) (loop .inv .1) (c .over-lines .ensures),
     )
 
 returns : tie.Need-returns Inv-loop μ-loop

@@ -8,7 +8,8 @@ use lib.ListN.{length, getD, length-set}
 use borrow.Author.Needs.{needs}
 use Rattle.algebra.proofs.Kernel.{cleared, skip-le}
 use Rattle.matrix.specs.Numbers.{numbers, entry, InField, WordsInField}
-use Rattle.matrix.proofs.Elimination.{stored-more, cleared-entry}
+use Rattle.matrix.proofs.Elimination.{cleared-entry}
+use Rattle.matrix.proofs.Minors.{stored-more}
 use Rattle.matrix.proofs.branch.cleared.Statement.{statement}
 use Rattle.matrix.proofs.branch.cleared.Tie as tie
 

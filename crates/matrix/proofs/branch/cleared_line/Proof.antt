@@ -8,7 +8,7 @@ use lib.ListN.{length, getD, length-set}
 use borrow.Author.Needs.{needs}
 use Rattle.field.specs.Polynomial.{_⊕_, product}
 use Rattle.matrix.specs.Numbers.{WordsInField}
-use Rattle.matrix.proofs.Elimination.{stored-more}
+use Rattle.matrix.proofs.Minors.{stored-more}
 use Rattle.matrix.proofs.branch.cleared_line.Statement.{statement}
 use Rattle.matrix.proofs.branch.cleared_line.Tie as tie
 

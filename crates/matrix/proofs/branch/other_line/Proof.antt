@@ -2,7 +2,7 @@
 use mathlib.Core.Path.{sym, _∙_}
 use native.Mathlib.Numerals.{add-one}
 use borrow.Author.Needs.{needs}
-use Rattle.matrix.proofs.Elimination.{skip-before, skip-behind}
+use Rattle.matrix.proofs.Minors.{skip-before, skip-behind}
 use Rattle.matrix.proofs.branch.other_line.Statement.{statement}
 use Rattle.matrix.proofs.branch.other_line.Tie as tie
 

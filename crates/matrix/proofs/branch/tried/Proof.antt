@@ -1,22 +1,23 @@
 -- `matrix::branch::tried` meets its contract. Assumes nothing.
 use mathlib.Core.Path.{_≡_, sym, ap, _∙_}
-use Prim.Native.Nat.{ℕ, _+_, _-_, _≤_}
+use mathlib.Core.List.{[]}
+use Prim.Native.Nat.{ℕ, _+_, _-_, _≤_, _<_}
 use native.Mathlib.Nat.{le-of-lt}
 use native.Mathlib.Omega.{arith}
 use lib.Count.{ones, ones-le}
-use lib.ListN.{length}
+use lib.ListN.{length, getD}
 use Rattle.algebra.specs.Matrix.{chosen}
 use Rattle.algebra.proofs.Kernel.{hasKernel}
 use Rattle.matrix.specs.Numbers.{numbers, entry}
 use Rattle.matrix.specs.Pairs.{linesKernel}
-use Rattle.matrix.proofs.Masks.{chosen-ones}
+use Rattle.matrix.proofs.Selections.{chosen-among, chosen-ones, mask-fits}
 use Rattle.matrix.proofs.Trials.{lowered-skip, lowered-true, lowered-false, lines-kernel, lines-in-field}
 use Rattle.matrix.proofs.branch.tried.Statement.{statement}
 use Rattle.matrix.proofs.branch.tried.Tie as tie
 
 -- as many lines as the mask has ones
 sized : (c : tie.Start) → ones (c .args .lines) ≡ length (chosen (c .args .n) (c .args .lines))
-sized c = chosen-ones (c .args .n) (c .args .lines) (c .pre .4)
+sized c = sym (chosen-ones (c .args .n) (c .args .lines) (c .pre .4))
 
 few : (c : tie.Start) → ones (c .args .lines) ≤ c .args .n
 few c = ones-le (c .args .n) (c .args .lines) (c .pre .4)
@@ -37,7 +38,14 @@ returns c =
     (args .c + (args .n - length (chosen (args .n) (args .lines)))) (args .best) (rw (sized (c .before)) at (c .if1 .taken))
 
 chosen-lines-requires : tie.Need-chosen-lines-requires
-chosen-lines-requires c κs = c .before .pre .1
+chosen-lines-requires c κs = mask-fits (c .before .args .n) (c .before .args .lines) (c .before .pre .1) (c .before .pre .4)
+
+-- the lines that are chosen
+picked : (c : tie.After-chosen-lines) → (i : ℕ) → i < length (chosen (c .before .before .args .n) (c .before .before .args .lines))
+    → getD (c .chosen-lines .result) i [] ≡ getD (c .before .before .args .narrow) (getD (chosen (c .before .before .args .n) (c .before .before .args .lines)) i 0) []
+picked c =
+    rw (chosen-among (c .before .before .args .n) (c .before .before .args .lines) (c .before .before .pre .1) (c .before .before .pre .4)) at
+    (c .chosen-lines .ensures)
 
 has-kernel-requires : tie.Need-has-kernel-requires
 has-kernel-requires c κs =
@@ -48,7 +56,7 @@ has-kernel-requires c κs =
       start .pre .2,
       rw (sized start)
           (lines-in-field (args .p) (args .n) (args .c) (args .lines) (args .narrow) (c .chosen-lines .result)
-          (start .pre .3) (c .chosen-lines .ensures)),
+          (start .pre .3) (picked c)),
     )
 
 -- what the elimination decides
@@ -60,7 +68,7 @@ decided c =
     let args = c .before .before .before .args in
     c .has-kernel .ensures
     ∙ ap (λ (r : ℕ). hasKernel (numbers (args .p)) (args .c) r (entry (c .before .chosen-lines .result))) (sized (c .before .before .before))
-    ∙ lines-kernel (args .p) (args .n) (args .c) (args .lines) (args .narrow) (c .before .chosen-lines .result) (c .before .chosen-lines .ensures)
+    ∙ lines-kernel (args .p) (args .n) (args .c) (args .lines) (args .narrow) (c .before .chosen-lines .result) (picked (c .before))
 
 returns-2 : tie.Need-returns-2
 returns-2 c =

@@ -7,7 +7,7 @@ use Rattle.algebra.specs.Matrix.{sum}
 use Rattle.field.specs.Polynomial.{product}
 use Rattle.matrix.specs.Identity.{squareEntry}
 use Rattle.matrix.specs.Numbers.{numbers, entry, InField}
-use Rattle.matrix.proofs.Units.{square-more}
+use Rattle.matrix.proofs.Filled.{sum-more}
 use Rattle.matrix.proofs.involution.square_entry.Statement.{statement}
 use Rattle.matrix.proofs.involution.square_entry.Tie as tie
 
@@ -55,7 +55,7 @@ loop-again c =
     let args = c .before .before .before .before .before .args in
     let loop = c .before .before .before .before .loop in (
       omega arith,
-      square-more (args .p) (loop .k) (λ l. product (args .p) (entry (args .t2) (args .i) l) (entry (args .t2) l (args .j)))
+      sum-more (args .p) (loop .k) (λ l. product (args .p) (entry (args .t2) (args .i) l) (entry (args .t2) l (args .j)))
           (loop .r) (c .product .result) (loop .inv .1) (c .product .ensures),
     )
 
