@@ -1,1 +1,3 @@
 -- Laws of what is due.
+pub mod Lines
+pub mod DemandThree

@@ -1,3 +1,5 @@
 -- The definitions that the contracts of `answer` cite.
 pub mod Due
 pub mod Answered
+pub mod Reference
+pub mod DemandThree

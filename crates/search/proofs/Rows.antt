@@ -105,7 +105,7 @@ module _ {A : Type 0} where
   mem-words letters n x = (words-over letters n x, λ h. over-words letters n x (h .0) (h .1))
 
 -- the later row named in another way
-earlier-cast : (x y z : List ℕ) → x ≡ y → Earlier z y → Earlier z x
+pub earlier-cast : (x y z : List ℕ) → x ≡ y → Earlier z y → Earlier z x
 earlier-cast x y z e h = rw e h
 
 -- ascending letters before words in dictionary order
