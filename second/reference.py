@@ -1,0 +1,100 @@
+"""The reference lines of document 01 as whole request and answer texts, and a text for each refusal."""
+from rowtext import CHECK, SEARCH, SURVEY, circulant, hadamard, line, request
+
+WORKED_REQUEST = b"     1    19     4     4\n     1     4     9    13\n"
+WORKED_ANSWER = b"     0     6    18    72\n     1     4     9    13\n"
+
+COUNTS_OVER_19 = [0, 0, 1, 5, 2, 6, 5, 9, 3, 1, 8, 6, 5, 3, 8, 6]
+
+
+def field_lines():
+    """Facts of the field, seen through checks: the count of an element is the matrix count of order 1, and a × b = 1
+    exactly if the matrix with 0 a in its first line and b 0 in its second is an involution."""
+    for a, count in enumerate(COUNTS_OVER_19):
+        branch = 1 if a == 0 else 2
+        answer = line([0, branch, branch - 1, int(a == 1), count])
+        yield f"count of {a} over 19", request(CHECK, 19, 1, [a]), answer
+    yield "2 × 9 = 1 over 19", request(CHECK, 19, 2, [0, 2, 9, 0]), line([0, 2, 0, 1, 1 + 1 + 8])
+    yield "8 × 15 = 1 over 19", request(CHECK, 19, 2, [0, 8, 15, 0]), line([0, 2, 0, 1, 3 + 6 + 8])
+    # 2 to the fifth power is 4 × 8; the bit matrices of 4 and 8 over 31 have 7 ones each, so they count 3.
+    yield "2 to the fifth power is 1 over 31", request(CHECK, 31, 2, [0, 4, 8, 0]), line([0, 2, 0, 1, 3 + 3 + 8])
+
+
+def search_lines():
+    found = WORKED_ANSWER
+    yield "worked example", WORKED_REQUEST, found
+    yield "candidates 1 2 4 8", request(SEARCH, 19, 4, [1, 2, 4, 8]), line([9])
+    yield "candidates 1 3 8 11", request(SEARCH, 19, 4, [1, 3, 8, 11]), line([9])
+    yield "candidates 1 4 9", request(SEARCH, 19, 4, [1, 4, 9]), line([9])
+    yield "all fifteen over 19", request(SEARCH, 19, 4, list(range(1, 16))), found
+
+
+def check_lines():
+    yield "Hadamard 1 3 8 11", request(CHECK, 19, 4, hadamard([1, 3, 8, 11])), line([0, 4, 0, 1, 104])
+    yield "Hadamard 1 4 9 13", request(CHECK, 19, 4, hadamard([1, 4, 9, 13])), line([0, 5, 1, 1, 72])
+    yield "FIPS 197 matrix", request(CHECK, 283, 4, circulant([2, 3, 1, 1])), line([0, 5, 1, 0, 152])
+    yield "identity of order 2 over 7", request(CHECK, 7, 2, [1, 0, 0, 1]), line([0, 2, 0, 1, 4])
+    yield "order 1, entry 0, over 7", request(CHECK, 7, 1, [0]), line([0, 1, 0, 0, 0])
+
+
+def survey_lines():
+    yield "survey of degree 2", request(SURVEY, 2, 0, []), line([0, 1]) + line([7, 2, 2])
+
+
+def limit_lines():
+    """Limits of polynomial, order and count. An answer of None is one that must not be refusal 6."""
+    for polynomial, number in [(3, 3), (7, 9), (21, 4), (511, 4), (512, 3)]:
+        yield f"polynomial {polynomial}", request(SEARCH, polynomial, 4, [1]), line([number])
+    values = list(range(1, 257))
+    yield "order 8, 16 candidates", request(SEARCH, 283, 8, values[:16]), None
+    yield "order 8, 17 candidates", request(SEARCH, 283, 8, values[:17]), line([6])
+    yield "order 4, 255 candidates", request(SEARCH, 283, 4, values[:255]), None
+    yield "order 4, 256 values", request(SEARCH, 283, 4, values), line([6])
+
+
+def reference_lines():
+    """(name, request text, answer text or None)"""
+    for part in (search_lines, check_lines, survey_lines, field_lines, limit_lines):
+        yield from part()
+
+
+def refusal_lines():
+    """(name, request text, refusal): each number alone, and with later faults in the same text."""
+    r = request
+    yield "empty text", b"", 1
+    yield "no line end", WORKED_REQUEST[:-1], 1
+    yield "a byte behind", WORKED_REQUEST + b"\n", 1
+    yield "a value missing", r(SEARCH, 19, 4, [1, 4, 9], count=4), 1
+    yield "a value too many", r(SEARCH, 19, 4, [1, 4, 9, 13], count=3), 1
+    yield "a leading zero", WORKED_REQUEST.replace(b"    19", b"   019"), 1
+    yield "672 values", r(SEARCH, 19, 4, [1] * 672), 1
+    yield "1 before 2 to 8", r(9, 3, 9, [0, 0, 999999], count=2), 1
+    yield "kind 0", r(0, 19, 4, [1]), 2
+    yield "kind 4", r(4, 19, 4, [1]), 2
+    yield "2 before 3 to 8", r(999999, 512, 9, [0, 0, 999999]), 2
+    yield "polynomial 3", r(CHECK, 3, 1, [0]), 3
+    yield "polynomial 512", r(CHECK, 512, 1, [0]), 3
+    yield "degree 1", r(SURVEY, 1, 0, []), 3
+    yield "degree 9", r(SURVEY, 9, 0, []), 3
+    yield "3 before 5 to 8", r(SEARCH, 3, 5, [0, 0, 999999]), 3
+    yield "3 before 5 and 6 in a survey", r(SURVEY, 19, 4, [1]), 3
+    yield "polynomial 21", r(CHECK, 21, 1, [0]), 4
+    yield "4 before 5 to 8", r(SEARCH, 21, 5, [0, 0, 999999]), 4
+    yield "order 2 in a search", r(SEARCH, 19, 2, [1]), 5
+    yield "order 0 in a check", r(CHECK, 19, 0, []), 5
+    yield "order 9 in a check", r(CHECK, 19, 9, [1] * 81), 5
+    yield "order 1 in a survey", r(SURVEY, 4, 1, []), 5
+    yield "5 before 6 to 8", r(SEARCH, 19, 5, [0, 0] + [16] * 300), 5
+    yield "no candidate", r(SEARCH, 19, 4, []), 6
+    yield "17 candidates at order 8", r(SEARCH, 283, 8, list(range(1, 18))), 6
+    yield "15 entries at order 4", r(CHECK, 19, 4, [1] * 15), 6
+    yield "a value in a survey", r(SURVEY, 4, 0, [1]), 6
+    yield "6 before 7 and 8", r(SEARCH, 19, 8, [16, 0, 0] * 6), 6
+    yield "candidate 16 over 19", r(SEARCH, 19, 4, [1, 16]), 7
+    yield "entry 16 over 19", r(CHECK, 19, 1, [16]), 7
+    yield "7 before 8", r(SEARCH, 19, 4, [0, 0, 16]), 7
+    yield "candidate 0", r(SEARCH, 19, 4, [1, 0]), 8
+    yield "a candidate repeated", r(SEARCH, 19, 4, [1, 4, 9, 13, 4]), 8
+    yield "8 before 9", r(SEARCH, 19, 4, [1, 1]), 8
+    yield "no row at order 4", r(SEARCH, 19, 4, [1, 2, 4, 8]), 9
+    yield "no row at order 8", r(SEARCH, 19, 8, [1, 2, 3, 4, 5, 6, 7]), 9

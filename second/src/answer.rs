@@ -1,0 +1,238 @@
+//! From a request text to its answer text, and the refusals in their order.
+
+use crate::distance::{branch_number, lightest_word, Word};
+use crate::field::{degree, irreducible, Field};
+use crate::matrix::Matrix;
+use crate::search::lightest_row;
+use crate::text::{line_of, read_request, Request};
+use std::collections::HashMap;
+
+/// A refusal's number, 1 to 9.
+pub type Refusal = u32;
+
+/// Answers requests; the tables of a field are kept for the next request.
+#[derive(Default)]
+pub struct Answerer {
+    fields: HashMap<u32, Field>,
+}
+
+impl Answerer {
+    /// The whole answer text, or the refusal's line.
+    pub fn answer(&mut self, text: &[u8]) -> String {
+        self.accepted(text).unwrap_or_else(|refusal| line_of(&[refusal]))
+    }
+
+    /// For a check: the input and output of least weight, if it is not MDS.
+    pub fn lightest_word(&mut self, text: &[u8]) -> Result<Option<Word>, Refusal> {
+        let request = judged(text)?;
+        if request.kind != 2 {
+            return Err(2);
+        }
+        Ok(lightest_word(self.field(request.polynomial), &matrix_of(&request)))
+    }
+
+    fn accepted(&mut self, text: &[u8]) -> Result<String, Refusal> {
+        let request = judged(text)?;
+        match request.kind {
+            1 => search_answer(self.field(request.polynomial), &request),
+            2 => Ok(check_answer(self.field(request.polynomial), &request)),
+            _ => Ok(survey_answer(request.polynomial)),
+        }
+    }
+
+    fn field(&mut self, polynomial: u32) -> &Field {
+        self.fields.entry(polynomial).or_insert_with(|| Field::new(polynomial))
+    }
+}
+
+/// The request of a text, or the lowest of the numbers 1 to 8 that applies.
+fn judged(text: &[u8]) -> Result<Request, Refusal> {
+    let request = read_request(text).ok_or(1u32)?;
+    let refused = match request.kind {
+        1 => search_refusal(&request),
+        2 => check_refusal(&request),
+        3 => survey_refusal(&request),
+        _ => Some(2),
+    };
+    refused.map_or(Ok(request), Err)
+}
+
+/// The first number whose fault is there.
+fn first_fault(faults: &[(Refusal, &dyn Fn() -> bool)]) -> Option<Refusal> {
+    faults.iter().find(|(_, is_there)| is_there()).map(|(number, _)| *number)
+}
+
+fn search_refusal(request: &Request) -> Option<Refusal> {
+    let most = if request.order == 4 { 255 } else { 16 };
+    first_fault(&[
+        (3, &|| !polynomial_in_range(request)),
+        (4, &|| !irreducible(request.polynomial)),
+        (5, &|| request.order != 4 && request.order != 8),
+        (6, &|| request.count < 1 || request.count > most),
+        (7, &|| value_outside_field(request)),
+        (8, &|| zero_or_repeated(&request.values)),
+    ])
+}
+
+fn check_refusal(request: &Request) -> Option<Refusal> {
+    first_fault(&[
+        (3, &|| !polynomial_in_range(request)),
+        (4, &|| !irreducible(request.polynomial)),
+        (5, &|| request.order < 1 || request.order > 8),
+        (6, &|| request.count != request.order * request.order),
+        (7, &|| value_outside_field(request)),
+    ])
+}
+
+fn survey_refusal(request: &Request) -> Option<Refusal> {
+    first_fault(&[
+        (3, &|| request.polynomial < 2 || request.polynomial > 8),
+        (5, &|| request.order != 0),
+        (6, &|| request.count != 0),
+    ])
+}
+
+fn polynomial_in_range(request: &Request) -> bool {
+    (4..=511).contains(&request.polynomial)
+}
+
+fn value_outside_field(request: &Request) -> bool {
+    let size = 1 << degree(request.polynomial);
+    request.values.iter().any(|&v| v >= size)
+}
+
+fn zero_or_repeated(values: &[u32]) -> bool {
+    values.iter().enumerate().any(|(k, v)| *v == 0 || values[..k].contains(v))
+}
+
+fn search_answer(field: &Field, request: &Request) -> Result<String, Refusal> {
+    let candidates: Vec<u8> = request.values.iter().map(|&v| v as u8).collect();
+    let found = lightest_row(field, request.order as usize, &candidates).ok_or(9u32)?;
+    let row_count = found.sum + (request.order - 1) * field.degree as u32;
+    let row: Vec<u32> = found.row.iter().map(|&h| h as u32).collect();
+    Ok(line_of(&[0, found.sum, row_count, request.order * row_count]) + &line_of(&row))
+}
+
+fn matrix_of(request: &Request) -> Matrix {
+    let n = request.order as usize;
+    Matrix::from_entries(n, |i, j| request.values[i * n + j] as u8)
+}
+
+fn check_answer(field: &Field, request: &Request) -> String {
+    let matrix = matrix_of(request);
+    let branch = branch_number(field, &matrix) as u32;
+    let mds = (branch == request.order + 1) as u32;
+    line_of(&[0, branch, mds, matrix.is_involution(field) as u32, matrix.count(field)])
+}
+
+/// The lines ascend by the polynomial.
+fn survey_answer(degree: u32) -> String {
+    let polynomials: Vec<u32> = (1 << degree..1 << (degree + 1)).filter(|&p| irreducible(p)).collect();
+    let head = line_of(&[0, polynomials.len() as u32]);
+    polynomials.iter().fold(head, |text, &p| text + &survey_line(p))
+}
+
+fn survey_line(polynomial: u32) -> String {
+    let field = Field::new(polynomial);
+    let counts: Vec<u32> = (1..field.size).map(|a| field.xor_count(a as u8)).collect();
+    line_of(&[polynomial, counts.iter().sum(), counts.iter().map(|c| c * c).sum()])
+}
+
+#[cfg(test)]
+mod tests {
+    use super::*;
+
+    fn text_of(head: [u32; 4], values: &[u32]) -> String {
+        values.chunks(16).fold(line_of(&head), |text, line| text + &line_of(line))
+    }
+
+    /// The answer's numbers to a request whose count is right.
+    fn ask(kind: u32, polynomial: u32, order: u32, values: &[u32]) -> Vec<u32> {
+        let text = text_of([kind, polynomial, order, values.len() as u32], values);
+        let answer = Answerer::default().answer(text.as_bytes());
+        let numbers = answer.lines().flat_map(|line| line.as_bytes().chunks(6));
+        numbers.map(|columns| std::str::from_utf8(columns).unwrap().trim().parse().unwrap()).collect()
+    }
+
+    fn hadamard(row: &[u32]) -> Vec<u32> {
+        let n = row.len();
+        (0..n * n).map(|k| row[(k / n) ^ (k % n)]).collect()
+    }
+
+    #[test]
+    fn worked_example_byte_for_byte() {
+        let request = "     1    19     4     4\n     1     4     9    13\n";
+        let expected = "     0     6    18    72\n     1     4     9    13\n";
+        assert_eq!(Answerer::default().answer(request.as_bytes()), expected);
+    }
+
+    #[test]
+    fn reference_searches() {
+        assert_eq!(ask(1, 19, 4, &[1, 2, 4, 8]), [9]);
+        assert_eq!(ask(1, 19, 4, &[1, 3, 8, 11]), [9]);
+        assert_eq!(ask(1, 19, 4, &[1, 4, 9]), [9]);
+        let fifteen: Vec<u32> = (1..16).collect();
+        assert_eq!(ask(1, 19, 4, &fifteen), [0, 6, 18, 72, 1, 4, 9, 13]);
+    }
+
+    #[test]
+    fn reference_checks() {
+        assert_eq!(ask(2, 19, 4, &hadamard(&[1, 3, 8, 11])), [0, 4, 0, 1, 104]);
+        assert_eq!(ask(2, 19, 4, &hadamard(&[1, 4, 9, 13])), [0, 5, 1, 1, 72]);
+        let fips = [2, 3, 1, 1, 1, 2, 3, 1, 1, 1, 2, 3, 3, 1, 1, 2];
+        assert_eq!(ask(2, 283, 4, &fips), [0, 5, 1, 0, 152]);
+        assert_eq!(ask(2, 7, 2, &[1, 0, 0, 1]), [0, 2, 0, 1, 4]);
+        assert_eq!(ask(2, 7, 1, &[0]), [0, 1, 0, 0, 0]);
+    }
+
+    #[test]
+    fn reference_surveys() {
+        assert_eq!(ask(3, 2, 0, &[]), [0, 1, 7, 2, 2]);
+        for m in 2..=8 {
+            let answer = ask(3, m, 0, &[]);
+            assert_eq!(answer[1], [1, 2, 3, 6, 9, 18, 30][m as usize - 2]);
+            assert_eq!(answer.len(), 2 + 3 * answer[1] as usize);
+            // Each bit matrix column runs through the whole field: the sum is the same for every polynomial.
+            assert!(answer[2..].chunks(3).all(|l| l[1] == m * m * (1 << (m - 1)) - m * ((1 << m) - 1)));
+        }
+    }
+
+    #[test]
+    fn reference_refusals() {
+        assert_eq!(ask(1, 3, 4, &[1]), [3]);
+        assert_eq!(ask(1, 7, 4, &[1]), [9]);
+        assert_eq!(ask(1, 21, 4, &[1]), [4]);
+        assert_eq!(ask(1, 511, 4, &[1]), [4]);
+        assert_eq!(ask(1, 512, 4, &[1]), [3]);
+        let values: Vec<u32> = (1..=256).collect();
+        assert_ne!(ask(1, 283, 8, &values[..16]), [6]);
+        assert_eq!(ask(1, 283, 8, &values[..17]), [6]);
+        assert_ne!(ask(1, 283, 4, &values[..255]), [6]);
+        assert_eq!(ask(1, 283, 4, &values), [6]);
+    }
+
+    #[test]
+    fn lowest_refusal_comes_first() {
+        let answer = |text: &str| Answerer::default().answer(text.as_bytes());
+        assert_eq!(answer(""), "     1\n");
+        assert_eq!(answer("     4     3     9     1\n"), "     1\n");
+        assert_eq!(ask(4, 3, 9, &[0, 0]), [2]);
+        assert_eq!(ask(0, 21, 9, &[300]), [2]);
+        assert_eq!(ask(1, 512, 5, &[]), [3]);
+        assert_eq!(ask(1, 21, 5, &[]), [4]);
+        assert_eq!(ask(1, 19, 5, &[]), [5]);
+        assert_eq!(ask(1, 19, 8, &[16; 17]), [6]);
+        assert_eq!(ask(1, 19, 4, &[]), [6]);
+        assert_eq!(ask(1, 19, 4, &[0, 0, 16]), [7]);
+        assert_eq!(ask(1, 19, 4, &[2, 4, 2]), [8]);
+        assert_eq!(ask(1, 19, 4, &[2, 0]), [8]);
+        assert_eq!(ask(2, 19, 0, &[]), [5]);
+        assert_eq!(ask(2, 19, 9, &[1]), [5]);
+        assert_eq!(ask(2, 19, 2, &[16; 3]), [6]);
+        assert_eq!(ask(2, 19, 2, &[0, 0, 0, 16]), [7]);
+        assert_eq!(ask(3, 9, 1, &[1]), [3]);
+        assert_eq!(ask(3, 1, 0, &[]), [3]);
+        assert_eq!(ask(3, 4, 1, &[1]), [5]);
+        assert_eq!(ask(3, 4, 0, &[99]), [6]);
+    }
+}

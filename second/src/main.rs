@@ -1,0 +1,65 @@
+//! A second row finder, written from the definitions alone, for comparison with `rowfind`.
+//!
+//! - `second` reads one request text on standard input and writes the answer text or the refusal's line.
+//! - `second serve` reads requests one after another, each as its length in four bytes (lowest first) and its bytes,
+//!   and writes each answer in the same form, until its input ends.
+//! - `second light` reads a check and writes an input of least weight and its output, if it is not MDS.
+
+mod answer;
+#[cfg(test)]
+mod brute;
+mod distance;
+mod field;
+mod matrix;
+mod search;
+mod text;
+
+use answer::Answerer;
+use std::io::{self, Read, Write};
+
+fn main() -> io::Result<()> {
+    match std::env::args().nth(1).as_deref() {
+        None => answer_one(),
+        Some("serve") => serve(),
+        Some("light") => light(),
+        Some(other) => {
+            eprintln!("second: unknown mode '{other}': none, serve or light");
+            std::process::exit(2)
+        }
+    }
+}
+
+/// Standard input until its end or one byte more than the longest text. A failed read counts as the end.
+fn read_text() -> Vec<u8> {
+    let mut text = Vec::new();
+    let _ = io::stdin().lock().take(text::LONGEST as u64 + 1).read_to_end(&mut text);
+    text
+}
+
+fn answer_one() -> io::Result<()> {
+    io::stdout().write_all(Answerer::default().answer(&read_text()).as_bytes())
+}
+
+fn serve() -> io::Result<()> {
+    let (mut input, mut output) = (io::stdin().lock(), io::stdout().lock());
+    let mut answerer = Answerer::default();
+    let mut length = [0; 4];
+    while input.read_exact(&mut length).is_ok() {
+        let mut text = vec![0; u32::from_le_bytes(length) as usize];
+        input.read_exact(&mut text)?;
+        let answer = answerer.answer(&text);
+        output.write_all(&(answer.len() as u32).to_le_bytes())?;
+        output.write_all(answer.as_bytes())?;
+        output.flush()?;
+    }
+    Ok(())
+}
+
+fn light() -> io::Result<()> {
+    let text = match Answerer::default().lightest_word(&read_text()) {
+        Err(refusal) => format!("refused {refusal}\n"),
+        Ok(None) => "none\n".to_string(),
+        Ok(Some((input, output))) => format!("input {input:?}\noutput {output:?}\n"),
+    };
+    io::stdout().write_all(text.as_bytes())
+}

@@ -1,0 +1,267 @@
+//! The lightest row: every row over the candidates, in dictionary order, the lightest good one kept.
+//!
+//! Rows are walked entry by entry. A beginning is left early where nothing good and lighter can follow:
+//!
+//! - The exclusive or of the row of an involution is 1, so the last entry follows from the others.
+//! - Two equal entries, at a and b, give the input with ones at words 0 and (a xor b) two zeros in its output, at
+//!   words a and b, so the matrix is not MDS: entries differ.
+//! - The count so far plus the least counts for the places left is not below the best count.
+//! - Order 8: lines and columns of an index plane {a, b, c, a xor b xor c} cut a Hadamard matrix of order 4 out of the
+//!   large one. A light input of it, padded with zeros, is light for the large one, so all 14 of them are MDS.
+//!   Whether four candidates give an MDS matrix does not depend on their order, and stands in a table.
+//!
+//! A row that is left is looked at quickly and, if no light input is met, judged by the whole test.
+
+use crate::distance::{is_mds, may_be_mds};
+use crate::field::Field;
+use crate::matrix::{Matrix, MOST};
+
+/// A row and the sum of its elements' counts.
+#[derive(Clone, PartialEq, Eq, Debug)]
+pub struct Found {
+    pub sum: u32,
+    pub row: Vec<u8>,
+}
+
+/// The lightest good row of order 4 or 8 over different nonzero candidates; among equals the first in the dictionary.
+pub fn lightest_row(field: &Field, order: usize, candidates: &[u8]) -> Option<Found> {
+    let mut search = Search::new(field, order, candidates);
+    search.extend(0, 0, 1, 0);
+    search.best
+}
+
+/// Both properties of a row.
+fn is_good(field: &Field, row: &[u8]) -> bool {
+    let matrix = Matrix::hadamard(row);
+    is_mds(field, &matrix) && matrix.is_involution(field)
+}
+
+struct Search<'a> {
+    field: &'a Field,
+    order: usize,
+    /// The candidates in ascending order.
+    candidates: Vec<u8>,
+    /// `place[h]` is the place of h among the candidates.
+    place: Vec<Option<usize>>,
+    /// `least[k]` is the sum of the k smallest candidate counts.
+    least: Vec<u32>,
+    /// For order 8: whether the candidates whose places are the bits of the index give an MDS matrix of order 4.
+    good_fours: Vec<bool>,
+    /// The places of the row's entries so far.
+    chosen: [usize; MOST],
+    used: [bool; 256],
+    best: Option<Found>,
+}
+
+impl<'a> Search<'a> {
+    fn new(field: &'a Field, order: usize, candidates: &[u8]) -> Search<'a> {
+        let mut candidates = candidates.to_vec();
+        candidates.sort();
+        let mut place = vec![None; field.size];
+        candidates.iter().enumerate().for_each(|(k, &h)| place[h as usize] = Some(k));
+        let least = least_sums(field, &candidates, order);
+        let good_fours = if order == 8 { good_fours(field, &candidates) } else { Vec::new() };
+        let (chosen, used) = ([0; MOST], [false; 256]);
+        Search { field, order, candidates, place, least, good_fours, chosen, used, best: None }
+    }
+
+    /// All rows with the chosen beginning; `rest` is what the entries left must sum to.
+    fn extend(&mut self, depth: usize, sum: u32, rest: u8, planes_from: usize) {
+        if depth + 1 == self.order {
+            if let Some(last) = self.place.get(rest as usize).copied().flatten() {
+                self.place_entry(depth, last, sum, rest, planes_from);
+            }
+            return;
+        }
+        for k in 0..self.candidates.len() {
+            self.place_entry(depth, k, sum, rest, planes_from);
+        }
+    }
+
+    /// Candidate k as the next entry.
+    fn place_entry(&mut self, depth: usize, k: usize, sum: u32, rest: u8, planes_from: usize) {
+        let h = self.candidates[k];
+        let sum = sum + self.field.xor_count(h);
+        if self.used[k] || self.too_heavy(sum, self.order - depth - 1) {
+            return;
+        }
+        self.chosen[depth] = k;
+        let planes_to = planes_from + planes_ending(&PLANES[planes_from..], depth);
+        if self.order == 8 && !PLANES[planes_from..planes_to].iter().all(|plane| self.is_good_four(plane)) {
+            return;
+        }
+        if depth + 1 == self.order {
+            self.judge(sum);
+            return;
+        }
+        self.used[k] = true;
+        self.extend(depth + 1, sum, rest ^ h, planes_to);
+        self.used[k] = false;
+    }
+
+    /// Rows walked later stand later in the dictionary, so only a smaller count counts.
+    fn too_heavy(&self, sum: u32, left: usize) -> bool {
+        self.least.len() <= left || self.best.as_ref().is_some_and(|best| sum + self.least[left] >= best.sum)
+    }
+
+    fn is_good_four(&self, plane: &[usize; 4]) -> bool {
+        self.good_fours[plane.iter().fold(0, |set, &i| set | 1 << self.chosen[i])]
+    }
+
+    fn judge(&mut self, sum: u32) {
+        let row: Vec<u8> = self.chosen[..self.order].iter().map(|&k| self.candidates[k]).collect();
+        if may_be_mds(self.field, &Matrix::hadamard(&row)) && is_good(self.field, &row) {
+            self.best = Some(Found { sum, row });
+        }
+    }
+}
+
+/// The 14 index planes of order 8, by their largest index.
+const PLANES: [[usize; 4]; 14] = [
+    [0, 1, 2, 3],
+    [0, 1, 4, 5],
+    [2, 3, 4, 5],
+    [0, 2, 4, 6],
+    [0, 3, 5, 6],
+    [1, 2, 5, 6],
+    [1, 3, 4, 6],
+    [0, 1, 6, 7],
+    [0, 2, 5, 7],
+    [0, 3, 4, 7],
+    [1, 2, 4, 7],
+    [1, 3, 5, 7],
+    [2, 3, 6, 7],
+    [4, 5, 6, 7],
+];
+
+/// How many of the planes, from the first on, end at this index.
+fn planes_ending(planes: &[[usize; 4]], index: usize) -> usize {
+    planes.iter().take_while(|plane| plane[3] == index).count()
+}
+
+/// Sums of the 0, 1, 2, ... smallest counts, at most as many as the order.
+fn least_sums(field: &Field, candidates: &[u8], order: usize) -> Vec<u32> {
+    let mut counts: Vec<u32> = candidates.iter().map(|&h| field.xor_count(h)).collect();
+    counts.sort();
+    let mut sums = vec![0];
+    for count in counts.into_iter().take(order) {
+        sums.push(sums[sums.len() - 1] + count);
+    }
+    sums
+}
+
+fn good_fours(field: &Field, candidates: &[u8]) -> Vec<bool> {
+    let members = |set: usize| (0..candidates.len()).filter(move |k| set >> k & 1 == 1);
+    let is_mds_four = |set: usize| {
+        set.count_ones() == 4 && {
+            let row: Vec<u8> = members(set).map(|k| candidates[k]).collect();
+            is_mds(field, &Matrix::hadamard(&row))
+        }
+    };
+    (0..1 << candidates.len()).map(is_mds_four).collect()
+}
+
+#[cfg(test)]
+mod tests {
+    use super::*;
+    use crate::brute;
+
+    fn pair(found: Option<Found>) -> Option<(u32, Vec<u8>)> {
+        found.map(|f| (f.sum, f.row))
+    }
+
+    /// The nonzero elements whose bits are set in the number.
+    fn subset(number: usize) -> Vec<u8> {
+        (0..16).filter(|k| number >> k & 1 == 1).map(|k| k as u8 + 1).collect()
+    }
+
+    #[test]
+    fn planes_are_all_sets_of_four_indices_with_sum_zero() {
+        let mut expected = Vec::new();
+        for d in 0..8 {
+            for a in 0..8 {
+                for b in a + 1..8 {
+                    let c = a ^ b ^ d;
+                    if b < c && c < d {
+                        expected.push([a, b, c, d]);
+                    }
+                }
+            }
+        }
+        assert_eq!(PLANES.to_vec(), expected);
+    }
+
+    #[test]
+    fn order_four_over_degrees_two_and_three_every_set_of_candidates() {
+        for polynomial in [7, 11, 13] {
+            let field = Field::new(polynomial);
+            let all: Vec<u8> = (1..field.size as u8).collect();
+            let good: Vec<Vec<u8>> = brute::rows(&all, 4).filter(|row| brute::is_good(&field, row)).collect();
+            for set in 1..1usize << (field.size - 1) {
+                let candidates = subset(set);
+                let expected =
+                    brute::lightest_row(&field, &candidates, 4, |row| good.iter().any(|g| g == row));
+                assert_eq!(pair(lightest_row(&field, 4, &candidates)), expected, "{candidates:?}");
+            }
+        }
+    }
+
+    #[test]
+    fn order_four_over_degree_four_samples() {
+        let mut sequence = brute::Sequence(4);
+        for polynomial in [19, 25, 31] {
+            let field = Field::new(polynomial);
+            for _ in 0..4 {
+                let candidates = subset(sequence.below(1 << 15) & 0x7abd | 1);
+                let few = &candidates[..candidates.len().min(6)];
+                let expected = brute::lightest_row(&field, few, 4, |row| brute::is_good(&field, row));
+                assert_eq!(pair(lightest_row(&field, 4, few)), expected, "{few:?}");
+            }
+        }
+    }
+
+    #[test]
+    fn order_eight_over_degree_two_has_no_row() {
+        let field = Field::new(7);
+        assert_eq!(brute::lightest_row(&field, &[1, 2, 3], 8, |row| brute::is_good(&field, row)), None);
+        assert_eq!(lightest_row(&field, 8, &[1, 2, 3]), None);
+    }
+
+    /// The table of fours is read for every order of its four candidates.
+    #[test]
+    fn mds_at_order_four_does_not_depend_on_the_order_of_the_row() {
+        for polynomial in [11, 19, 25, 31, 37] {
+            let field = Field::new(polynomial);
+            let candidates: Vec<u8> = (1..field.size.min(16) as u8).collect();
+            let table = good_fours(&field, &candidates);
+            for row in brute::rows(&candidates, 4) {
+                let set = row.iter().fold(0usize, |set, h| set | 1 << (h - 1));
+                assert_eq!(is_mds(&field, &Matrix::hadamard(&row)), table[set], "{row:?}");
+            }
+        }
+    }
+
+    /// All 8^8 rows, with repeats, against the walk with its early exits.
+    #[test]
+    fn order_eight_against_all_rows() {
+        let field = Field::new(19);
+        let candidates = [2, 3, 4, 5, 8, 10, 12, 15];
+        let good = |row: &[u8]| row.iter().fold(1, |s, h| s ^ h) == 0 && is_good(&field, row);
+        let expected = brute::lightest_row(&field, &candidates, 8, good);
+        assert!(expected.is_some());
+        assert_eq!(pair(lightest_row(&field, 8, &candidates)), expected);
+    }
+
+    #[test]
+    fn order_of_the_candidates_does_not_matter() {
+        let field = Field::new(25);
+        let mut candidates: Vec<u8> = (1..16).collect();
+        let expected = lightest_row(&field, 4, &candidates);
+        assert!(expected.is_some());
+        for _ in 0..15 {
+            candidates.rotate_left(1);
+            assert_eq!(lightest_row(&field, 4, &candidates), expected);
+            candidates.swap(2, 9);
+        }
+    }
+}
