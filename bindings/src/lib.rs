@@ -1,0 +1,34 @@
+//! A safe wrapper of the proved call `rowfind_answer`. See include/rowfind.h for the numbers.
+
+extern "C" {
+    fn rowfind_answer(
+        request: *const u8,
+        request_len: usize,
+        space: *mut u8,
+        space_len: usize,
+        length: *mut usize,
+    ) -> u32;
+}
+
+/// What a call returns: 0 and the length of the answer, or the number of a refusal and 0.
+#[derive(Debug, Clone, Copy, PartialEq, Eq)]
+pub struct Reply {
+    pub number: u32,
+    pub length: usize,
+}
+
+/// Answers a request text in the lent space. A slice's pointer is never null and its bytes are initialised, which is all
+/// that the proved function asks of its caller.
+pub fn answer(request: &[u8], space: &mut [u8]) -> Reply {
+    let mut length = 0;
+    let number = unsafe {
+        rowfind_answer(
+            request.as_ptr(),
+            request.len(),
+            space.as_mut_ptr(),
+            space.len(),
+            &mut length,
+        )
+    };
+    Reply { number, length }
+}

@@ -1,0 +1,82 @@
+//! Spaces of every length are lent, and every byte of them is looked at after the call.
+use rowfind::{answer, Reply};
+
+/// The text of numbers in six columns, one line for each list.
+fn text(lines: &[&[u32]]) -> Vec<u8> {
+    let mut bytes = Vec::new();
+    for line in lines {
+        for number in *line {
+            bytes.extend(format!("{number:6}").into_bytes());
+        }
+        bytes.push(b'\n');
+    }
+    bytes
+}
+
+/// A space whose bytes are all different from those of an answer.
+fn lent(length: usize) -> Vec<u8> {
+    (0..length).map(|i| 128 + (i % 100) as u8).collect()
+}
+
+/// Calls with a space of each length from 0 to `most`, and checks number, length and bytes.
+fn check_spaces(request: &[u8], written: &[u8], number: u32, most: usize) {
+    for length in 0..=most {
+        let before = lent(length);
+        let mut after = before.clone();
+        let reply = answer(request, &mut after);
+        let fits = written.len() <= length;
+        let expected = match (number, fits) {
+            (0, true) => Reply { number: 0, length: written.len() },
+            (0, false) => Reply { number: 10, length: 0 },
+            _ => Reply { number, length: 0 },
+        };
+        assert_eq!(reply, expected, "space of {length}");
+        let kept = if fits { written.len() } else { 0 };
+        assert_eq!(&after[..kept], &written[..kept], "space of {length}");
+        assert_eq!(&after[kept..], &before[kept..], "space of {length}");
+    }
+}
+
+#[test]
+fn an_accepted_search() {
+    let request = text(&[&[1, 19, 4, 4], &[1, 4, 9, 13]]);
+    let expected = text(&[&[0, 6, 18, 72], &[1, 4, 9, 13]]);
+    check_spaces(&request, &expected, 0, expected.len() + 1);
+}
+
+#[test]
+fn an_accepted_check() {
+    let request = text(&[&[2, 7, 2, 4], &[1, 0, 0, 1]]);
+    let expected = text(&[&[0, 2, 0, 1, 4]]);
+    check_spaces(&request, &expected, 0, expected.len() + 1);
+}
+
+#[test]
+fn a_survey_of_one_polynomial() {
+    let request = text(&[&[3, 2, 0, 0]]);
+    let expected = text(&[&[0, 1], &[7, 2, 2]]);
+    check_spaces(&request, &expected, 0, expected.len() + 1);
+}
+
+#[test]
+fn every_refusal() {
+    let refused: [(u32, Vec<u8>); 9] = [
+        (1, b"     1    19     4     4\n".to_vec()),
+        (2, text(&[&[4, 19, 4, 0]])),
+        (3, text(&[&[1, 3, 5, 0]])),
+        (4, text(&[&[1, 21, 5, 0]])),
+        (5, text(&[&[1, 19, 5, 0]])),
+        (6, text(&[&[1, 19, 4, 0]])),
+        (7, text(&[&[1, 19, 4, 2], &[16, 0]])),
+        (8, text(&[&[1, 19, 4, 2], &[7, 7]])),
+        (9, text(&[&[1, 19, 4, 4], &[1, 2, 4, 8]])),
+    ];
+    for (number, request) in refused {
+        check_spaces(&request, &text(&[&[number]]), number, 9);
+    }
+}
+
+#[test]
+fn no_request_at_all() {
+    check_spaces(b"", &text(&[&[1]]), 1, 9);
+}

@@ -1,0 +1,38 @@
+/* The row finder as a library: one request text to one answer text. The formats and numbers are those of the README. */
+#ifndef ROWFIND_H
+#define ROWFIND_H
+
+#include <stddef.h>
+#include <stdint.h>
+
+#ifdef __cplusplus
+extern "C" {
+#endif
+
+/* Answers the request in the lent space and stores a length at *length.
+ *
+ * Returns 0 if the request is accepted: *length is the length of the answer, which stands at the start of the space.
+ * Returns 1 to 9 if it is refused: *length is 0, and one line with the number (seven bytes) stands at the start of the
+ * space if at least seven bytes are lent.
+ * Returns 10 if the answer due is longer than the space: *length is 0, and no byte of the space changes.
+ * The bytes of the space behind what is written keep their contents.
+ *
+ *  1  the text is not of the form, is too long, or has not as many values as its count says
+ *  2  the kind is not 1, 2 or 3
+ *  3  the polynomial is not in 4 to 511; for a survey, the degree is not in 2 to 8
+ *  4  the polynomial is reducible
+ *  5  the order is not allowed for the kind
+ *  6  the count is not allowed for the kind and order
+ *  7  a value is 2^m or more
+ *  8  a candidate is 0 or repeated
+ *  9  none: no row over the candidates is both an involution and MDS
+ * 10  the lent space is shorter than the answer due
+ *
+ * request, space and length are not null, even where a length is 0; they do not overlap. */
+uint32_t rowfind_answer(const uint8_t *request, size_t request_len, uint8_t *space, size_t space_len, size_t *length);
+
+#ifdef __cplusplus
+}
+#endif
+
+#endif
