@@ -1,123 +1,157 @@
--- Good rows: their entries differ and have the sum 1; they are known by the blocks up to half the order; a move keeps goodness and
--- key. So the canonical rows are enough for the lightest row.
+-- Good rows of order 4 and 8: the exclusive or is 1, the entries differ, few square blocks decide, and the moves of proofs/Seven.antt keep
+-- them good. So the lightest row is the lightest of those that are tried.
 -- Assumes nothing.
-use mathlib.Core.Path.{_≡_, sym, ap₂, _∙_}
-use mathlib.Core.Logic.{_⊎_, ⊎-elim}
-use mathlib.Core.Bool.{true, _&&_, true≢false}
-use mathlib.Core.List.{List, [], _∷_, foldl, List·Memᴰ}
+use mathlib.Core.Path.{_≡_, refl, sym, ap, ap₂, subst, _∙_}
+use mathlib.Core.Logic.{⊎-elim}
+use mathlib.Core.Bool.{Bool, true, false, _&&_, true≢false, false≢true}
+use mathlib.Core.List.{List, [], _∷_, foldl-append, List·Memᴰ}
 use Prim.Native.Nat.{ℕ, zero, suc, _+_, _-_, _/_, _^_, _≤_, _<_}
-use native.Mathlib.Decide.{ℕ-discrete}
+use native.Mathlib.Nat.{le-refl}
 use native.Mathlib.Omega.{arith}
-use lib.ListN.{length, getD}
-use Rattle.algebra.specs.Matrix.{sum, hadamard, isInvolution}
-use Rattle.algebra.proofs.Involution.{and-left, and-right}
-use Rattle.algebra.proofs.Sums.{Inverse}
-use Rattle.field.specs.Polynomial.{degree, xorCount, Modulus}
+use lib.Dec.{eqb}
+use lib.ListN.{length, getD, take}
+use lib.Seq.{take-suc, take-length}
+use borrow.Author.Tests.{eqb-true, eqb-false}
+use Rattle.algebra.specs.Matrix.{sum, hadamard, isMds, isInvolution, words}
+use Rattle.algebra.proofs.Sums.{Inverse, own}
+use Rattle.field.specs.Polynomial.{Modulus, degree, xorCount}
 use Rattle.matrix.specs.Numbers.{numbers, elements, WordsInField}
-use Rattle.matrix.specs.Counts.{elementCount, total as totalOf}
+use Rattle.matrix.specs.Counts.{total as countTotal, elementCount}
 use Rattle.matrix.specs.Regular.{regularUpTo}
+use Rattle.matrix.proofs.Residues.{lift, lift-number, regular-carried}
 use Rattle.matrix.proofs.Rows.{involution-row-sum, row-sum-involution, equal-entries-not-mds, half-is-enough, moved-row-mds, moved-row-involution}
-use Rattle.search.specs.Lightest.{ascending, rowsOver, lightest}
-use Rattle.search.specs.Seven.{Move, from, moves, moved, canonical, total}
+use Rattle.search.specs.Lightest.{ascending, lightest, rowsOver}
+use Rattle.search.specs.Seven.{Move, from, moves, moved, total}
 use Rattle.search.specs.Answer.{isGood, keyOf, lightestRow}
+use Rattle.search.specs.Kept.{SearchOrder, tried}
 use Rattle.search.proofs.Rows.{getD-mem, mem-words, mem-ascending, sorted-ascending}
-use Rattle.search.proofs.Seven.{Sound, moves-sound, moved-length, moved-total, canonical-rows}
+use Rattle.search.proofs.Seven.{moves-sound, moved-total, canonical-rows, moved-length}
 
--- ---- the orders of a search
+-- ---- the order is a power of 2
 
-abbrev pub SearchOrder : ℕ → Type 0
-SearchOrder n = (n ≡ 4) ⊎ (n ≡ 8)
+-- the exponent
+pub record Power (n : ℕ) : Type 0 where
+  pub k : ℕ
+  pub positive : 1 ≤ k
+  pub is : n ≡ 2 ^ k
+  pub half : n / 2 ≡ 2 ^ (k - 1)
 
--- such an order is a power of 2, from 2 on
-pub order-power : (n : ℕ) → SearchOrder n → (k : ℕ) × (n ≡ 2 ^ k) × (1 ≤ k) × (n / 2 ≡ 2 ^ (k - 1))
-order-power n o = ⊎-elim (λ (e : n ≡ 4). (2, e, omega arith, rw e)) (λ (e : n ≡ 8). (3, e, omega arith, rw e)) o
+pub power : (n : ℕ) → SearchOrder n → Power n
+power n o = ⊎-elim (λ (e : n ≡ 4). rw e four) (λ (e : n ≡ 8). rw e eight) o
+  where
+    four : Power 4
+    four = record { k = 2; positive = omega arith; is = refl; half = refl }
+
+    eight : Power 8
+    eight = record { k = 3; positive = omega arith; is = refl; half = refl }
+
+-- both of two tests pass
+both : (a b : Bool) → (a && b) ≡ true → (a ≡ true) × (b ≡ true)
+both true b e = (refl, e)
+both false b e = absurd (false≢true e)
+
+-- ---- one row
+
+module _ (p : ℕ) (h : Modulus p) (k : ℕ) (row : List ℕ) (below : WordsInField p (2 ^ k) row) where
+  -- the exclusive or of a good row is 1
+  sum-of : isGood p (2 ^ k) row ≡ true → sum (numbers p) (2 ^ k) (λ i. getD row i 0) ≡ 1
+  unfolding isGood
+  sum-of g = involution-row-sum p h k row below (both _ _ g .0)
+
+  -- its entries differ
+  different-of : isGood p (2 ^ k) row ≡ true → (i j : ℕ) → i < 2 ^ k → j < 2 ^ k → getD row i 0 ≡ getD row j 0 → i ≡ j
+  unfolding isGood
+  different-of g i j a b e =
+      go (both (isInvolution (numbers p) (elements p) (2 ^ k) (hadamard (numbers p) row)) (isMds (numbers p) (elements p) (2 ^ k) (hadamard (numbers p) row)) g .1) (eqb i j) refl
+    where
+      go : isMds (numbers p) (elements p) (2 ^ k) (hadamard (numbers p) row) ≡ true → (t : Bool) → eqb i j ≡ t → i ≡ j
+      go f true q = eqb-true i j q
+      go f false q = absurd (true≢false (sym f ∙ equal-entries-not-mds p h k row below i j a b (eqb-false i j q) e))
+
+  -- few square blocks decide
+  regular-of : 1 ≤ k → sum (numbers p) (2 ^ k) (λ i. getD row i 0) ≡ 1
+      → isGood p (2 ^ k) row ≡ regularUpTo (numbers p) (2 ^ k) (hadamard (numbers p) row) 2 (2 ^ (k - 1))
+  unfolding isGood
+  regular-of g one = rw (row-sum-involution p h k row below one) (half-is-enough p h k row below g one)
+
+  -- a move of the places keeps it good
+  moved-of : (m : Move) → List·Memᴰ m (moves (2 ^ k)) → isGood p (2 ^ k) (moved (2 ^ k) m row) ≡ isGood p (2 ^ k) row
+  unfolding isGood moved
+  moved-of m i =
+      let ok = moves-sound (2 ^ k) m i in
+      let v : Inverse (2 ^ k) (from m) (from m) = own (2 ^ k) (from m) (ok .below) (ok .back) in
+      ap₂ _&&_ (moved-row-involution p h k row below (from m) (from m) v (ok .bits)) (moved-row-mds p h k row below (from m) (from m) v (ok .bits))
+
+module _ (p n : ℕ) (h : Modulus p) (o : SearchOrder n) (row : List ℕ) (below : WordsInField p n row) where
+  -- the same, of order 4 or 8
+  pub good-sum : isGood p n row ≡ true → sum (numbers p) n (λ i. getD row i 0) ≡ 1
+  good-sum =
+      subst (λ (n : ℕ). WordsInField p n row → isGood p n row ≡ true → sum (numbers p) n (λ i. getD row i 0) ≡ 1) (sym (power n o .is))
+      (λ b. sum-of p h (power n o .k) row b) below
+
+  pub good-different : isGood p n row ≡ true → (i j : ℕ) → i < n → j < n → getD row i 0 ≡ getD row j 0 → i ≡ j
+  good-different =
+      subst (λ (n : ℕ). WordsInField p n row → isGood p n row ≡ true → (i j : ℕ) → i < n → j < n → getD row i 0 ≡ getD row j 0 → i ≡ j) (sym (power n o .is))
+      (λ b. different-of p h (power n o .k) row b) below
+
+  pub good-regular : sum (numbers p) n (λ i. getD row i 0) ≡ 1 → isGood p n row ≡ regularUpTo (numbers p) n (hadamard (numbers p) row) 2 (n / 2)
+  good-regular one =
+      subst (λ (m : ℕ). WordsInField p m row → sum (numbers p) m (λ i. getD row i 0) ≡ 1 → isGood p m row ≡ regularUpTo (numbers p) m (hadamard (numbers p) row) 2 (2 ^ (power n o .k - 1)))
+      (sym (power n o .is)) (λ b. regular-of p h (power n o .k) row b (power n o .positive)) below one
+      ∙ ap (regularUpTo (numbers p) n (hadamard (numbers p) row) 2) (sym (power n o .half))
+
+  pub good-moved : (m : Move) → List·Memᴰ m (moves n) → isGood p n (moved n m row) ≡ isGood p n row
+  good-moved =
+      subst (λ (n : ℕ). WordsInField p n row → (m : Move) → List·Memᴰ m (moves n) → isGood p n (moved n m row) ≡ isGood p n row) (sym (power n o .is))
+      (λ b. moved-of p h (power n o .k) row b) below
+
+-- the test of the blocks depends on the entries alone
+pub regular-same : (p n : ℕ) → Modulus p → (f g : ℕ → ℕ → ℕ) → ((i j : ℕ) → i < n → j < n → f i j < 2 ^ degree p)
+    → ((i j : ℕ) → i < n → j < n → f i j ≡ g i j) → (step most : ℕ) → regularUpTo (numbers p) n f step most ≡ regularUpTo (numbers p) n g step most
+regular-same p n h f g below same step most =
+    regular-carried p h n f (λ i j. lift p (f i j)) (λ i j a b. lift-number p (f i j) (below i j a b)) step most
+    ∙ sym (regular-carried p h n g (λ i j. lift p (f i j)) (λ i j a b. lift-number p (f i j) (below i j a b) ∙ same i j a b) step most)
 
 -- ---- the key
 
--- the first term of a sum set apart
-total-first : (n : ℕ) (f : ℕ → ℕ) → totalOf (suc n) f ≡ f 0 + totalOf n (λ i. f (suc i))
-unfolding totalOf
-total-first zero f = omega arith
-total-first (suc n) f = omega (arith, total-first n f)
+-- the sum over the first entries
+total-take : (c : ℕ → ℕ) (row : List ℕ) (i : ℕ) → i ≤ length row → total c (take i row) ≡ countTotal i (λ j. c (getD row j 0))
+unfolding total countTotal
+total-take c row zero h = refl
+total-take c row (suc i) h =
+    rw (take-suc row i 0 (omega arith)) (foldl-append _ 0 (take i row) (getD row i 0 ∷ []) ∙ ap (λ s. s + c (getD row i 0)) (total-take c row i (omega arith)))
 
--- a sum over the places is the sum over the entries
-total-places : (c : ℕ → ℕ) (row : List ℕ) (n start : ℕ) → length row ≡ n
-    → foldl (λ sum a. sum + c a) start row ≡ start + totalOf n (λ j. c (getD row j 0))
-unfolding totalOf
-total-places c [] zero start e = omega arith
-total-places c [] (suc n) start e = absurd (omega arith)
-total-places c (a ∷ row) zero start e = absurd (omega arith)
-total-places c (a ∷ row) (suc n) start e =
-    omega (arith, total-places c row n (start + c a) (omega arith), total-first n (λ j. c (getD (a ∷ row) j 0)))
+-- the key of a row is the sum over its entries
+key-total : (p n : ℕ) (row : List ℕ) → length row ≡ n → keyOf p n row ≡ total (xorCount p) row
+unfolding keyOf elementCount
+key-total p n row l = rw (← l) (sym (total-take (xorCount p) row (length row) (le-refl (length row))) ∙ ap (total (xorCount p)) (take-length row))
 
--- the key is the sum of the counts of the entries
-pub key-total : (p n : ℕ) (row : List ℕ) → length row ≡ n → keyOf p n row ≡ total (xorCount p) row
-unfolding keyOf elementCount total
-key-total p n row e = omega (arith, total-places (xorCount p) row n 0 e)
-
--- a move keeps the key
+-- a move keeps it
 pub key-moved : (p n : ℕ) (m : Move) → List·Memᴰ m (moves n) → (row : List ℕ) → length row ≡ n → keyOf p n (moved n m row) ≡ keyOf p n row
-key-moved p n m i row e =
-    key-total p n (moved n m row) (moved-length n m row) ∙ moved-total n m i row e (xorCount p) ∙ sym (key-total p n row e)
+key-moved p n m i row l =
+    key-total p n (moved n m row) (moved-length n m row) ∙ moved-total n m i row l (xorCount p) ∙ sym (key-total p n row l)
 
--- ---- goodness
+-- ---- the rows that are tried
 
--- a row of sum 1 is good exactly if its blocks up to half the order with column 0 are regular: for a power of 2
-regular-power : (p : ℕ) → Modulus p → (k : ℕ) → 1 ≤ k → (row : List ℕ) → WordsInField p (2 ^ k) row → sum (numbers p) (2 ^ k) (λ i. getD row i 0) ≡ 1
-    → isGood p (2 ^ k) row ≡ regularUpTo (numbers p) (2 ^ k) (hadamard (numbers p) row) 2 (2 ^ (k - 1))
-unfolding isGood
-regular-power p h k one row below e = rw (row-sum-involution p h k row below e) (half-is-enough p h k row below one e)
+-- a row over letters of the field
+pub over-in-field : (p n : ℕ) (letters : List ℕ) → ((a : ℕ) → List·Memᴰ a letters → a < 2 ^ degree p) → (row : List ℕ) → length row ≡ n
+    → ((a : ℕ) → List·Memᴰ a row → List·Memᴰ a letters) → WordsInField p n row
+unfolding WordsInField
+over-in-field p n letters below row l over j h = below (getD row j 0) (over (getD row j 0) (getD-mem row j 0 (omega arith)))
 
-module _ (p : ℕ) (h : Modulus p) (n : ℕ) (o : SearchOrder n) (row : List ℕ) (below : WordsInField p n row) where
-  -- the sum of a good row is 1
-  pub good-sum : isGood p n row ≡ true → sum (numbers p) n (λ i. getD row i 0) ≡ 1
-  unfolding isGood
-  good-sum t =
-      let (k, size, _, _) = order-power n o in
-      rw size (involution-row-sum p h k row (rw size at below) (and-left _ _ (rw size at t)))
+-- the lightest row is the lightest of those that are tried
+pub tried-rows : (p n : ℕ) → Modulus p → SearchOrder n → (cs : List ℕ)
+    → lightestRow p n cs ≡ lightest (tried p n) (keyOf p n) (words (ascending (2 ^ degree p) cs) n)
+unfolding lightestRow rowsOver tried
+tried-rows p n h o cs =
+    canonical-rows (isGood p n) (keyOf p n) (sorted-ascending (2 ^ degree p) cs) n
+    (λ r i g. good-different p n h o r (fits r i) g)
+    (λ m j r i g. (good-moved p n h o r (fits r i) m j ∙ g, le-of (key-moved p n m j r (mem-words _ n r .0 i .0))))
+  where
+    fits : (r : List ℕ) → List·Memᴰ r (words (ascending (2 ^ degree p) cs) n) → WordsInField p n r
+    fits r i =
+        let (l, over) = mem-words (ascending (2 ^ degree p) cs) n r .0 i in
+        over-in-field p n (ascending (2 ^ degree p) cs) (λ a m. mem-ascending (2 ^ degree p) cs a .0 m .1) r l over
 
-  -- its entries differ
-  pub good-different : isGood p n row ≡ true → (i j : ℕ) → i < n → j < n → getD row i 0 ≡ getD row j 0 → i ≡ j
-  unfolding isGood
-  good-different t i j l m e =
-      let (k, size, _, _) = order-power n o in
-      elim (ℕ-discrete i j) [
-        | yes q ↦ q
-        | no q ↦ absurd (true≢false (sym (and-right (isInvolution (numbers p) (elements p) (2 ^ k) (hadamard (numbers p) row)) _ (rw size at t)) ∙ equal-entries-not-mds p h k row (rw size at below) i j (omega arith) (omega arith) q e))
-      ]
-
-  -- a row of sum 1 is good exactly if its blocks up to half the order with column 0 are regular
-  pub good-is-regular : sum (numbers p) n (λ i. getD row i 0) ≡ 1 → isGood p n row ≡ regularUpTo (numbers p) n (hadamard (numbers p) row) 2 (n / 2)
-  good-is-regular s =
-      ⊎-elim
-      (λ (e : n ≡ 4). rw e (regular-power p h 2 (omega arith) row (rw e at below) (rw e at s)))
-      (λ (e : n ≡ 8). rw e (regular-power p h 3 (omega arith) row (rw e at below) (rw e at s))) o
-
-  -- a move keeps goodness
-  pub good-moved : (m : Move) → List·Memᴰ m (moves n) → isGood p n (moved n m row) ≡ isGood p n row
-  unfolding isGood moved
-  good-moved m i =
-      let (k, size, _, _) = order-power n o in
-      let ok : Sound (2 ^ k) m = rw size at (moves-sound n m i) in
-      let v : Inverse (2 ^ k) (from m) (from m) = record { there = ok .below; back = ok .below; back-there = ok .back; there-back = ok .back } in
-      rw size (ap₂ _&&_ (moved-row-involution p h k row (rw size at below) (from m) (from m) v (ok .bits)) (moved-row-mds p h k row (rw size at below) (from m) (from m) v (ok .bits)))
-
--- ---- the canonical rows
-
--- the entries of a row over the candidates are elements
-pub over-below : (p n : ℕ) (candidates row : List ℕ) → List·Memᴰ row (rowsOver (2 ^ degree p) candidates n) → (length row ≡ n) × WordsInField p n row
-unfolding rowsOver WordsInField
-over-below p n candidates row i =
-    let (l, over) = mem-words (ascending (2 ^ degree p) candidates) n row .0 i in
-    (l, λ j m. mem-ascending (2 ^ degree p) candidates (getD row j 0) .0 (over (getD row j 0) (getD-mem row j 0 (omega arith))) .1)
-
--- the lightest row is the lightest of the canonical rows
-pub good-canonical : (p : ℕ) → Modulus p → (n : ℕ) → SearchOrder n → (candidates : List ℕ)
-    → lightestRow p n candidates ≡ lightest (λ r. canonical n r && isGood p n r) (keyOf p n) (rowsOver (2 ^ degree p) candidates n)
-unfolding lightestRow rowsOver
-good-canonical p h n o candidates =
-    canonical-rows (isGood p n) (keyOf p n) (sorted-ascending (2 ^ degree p) candidates) n
-    (λ r i t. good-different p h n o r (over-below p n candidates r i .1) t)
-    (λ m j r i t.
-    let (l, below) = over-below p n candidates r i in
-    (good-moved p h n o r below m j ∙ t, omega (arith, key-moved p n m j r l)))
+    le-of : {a b : ℕ} → a ≡ b → a ≤ b
+    le-of e = omega arith

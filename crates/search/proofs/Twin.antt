@@ -23,11 +23,11 @@ use Rattle.matrix.specs.Regular.{everyBelow, isRegularBlock, regularOfSize, reg
 use Rattle.search.specs.Lightest.{upTo, member, among, ascending, rowsOver, Earlier, differs, agrees, Sorted, end, then, Best, nothing, found, lighter, keep, keepAll, lightest}
 use Rattle.search.specs.Seven.{canonical}
 use Rattle.search.specs.Answer.{isGood, keyOf, lightestRow}
-use Rattle.search.proofs.Rows.{earlier-cast, sorted-append, sorted-map, getD-mem, mem-words, sorted-ascending, sorted-rows}
+use Rattle.search.proofs.Rows.{earlier-cast, sorted-append, sorted-map, getD-mem, mem-words, mem-ascending, sorted-ascending, sorted-rows}
 use Rattle.search.proofs.Demand.{none-sorted, row-sorted, unique-sorted}
 use Rattle.search.proofs.Walk.{same-good}
 use Rattle.search.proofs.Seven.{canonical-four}
-use Rattle.search.proofs.Good.{good-sum, good-is-regular, over-below, good-canonical}
+use Rattle.search.proofs.Good.{good-sum, good-regular, over-in-field, tried-rows}
 
 -- ---- fewer rows
 
@@ -195,16 +195,16 @@ good-tests : (p : ℕ) → Modulus p → (r : List ℕ) → WordsInField p 4 r �
 good-tests p h r below = go (sumsToOne p r) refl
   where
     go : (t : Bool) → sumsToOne p r ≡ t → isGood p 4 r ≡ (t && passes p r)
-    go true e = good-is-regular p h 4 (inl refl) r below (eqb-true _ 1 e)
-    go false e = same-bool _ false (λ g. sym e ∙ eq-eqb _ 1 (good-sum p h 4 (inl refl) r below g)) (λ f. absurd (false≢true f))
+    go true e = good-regular p 4 h (inl refl) r below (eqb-true _ 1 e)
+    go false e = same-bool _ false (λ g. sym e ∙ eq-eqb _ 1 (good-sum p 4 h (inl refl) r below g)) (λ f. absurd (false≢true f))
 
 -- the twin answers what the search answers
 pub lightest-is-twin : (p : ℕ) → Modulus p → (candidates : List ℕ) → lightestRow p 4 candidates ≡ twin p candidates
-unfolding twin lightest rowsOver
+unfolding twin lightest rowsOver Rattle.search.specs.Kept.tried
 lightest-is-twin p h candidates =
     let letters = ascending (2 ^ degree p) candidates in
     let ascends = sorted-ascending (2 ^ degree p) candidates in
-    good-canonical p h 4 (inl refl) candidates
+    tried-rows p 4 h (inl refl) candidates
     ∙ fewer-rows (λ r. canonical 4 r && isGood p 4 r) (keyOf p 4) (sorted-rows (2 ^ degree p) candidates 4) (sorted-picks ascends 4)
     (λ r m. mem-words letters 4 r .1 (pick-over letters 4 r m))
     (λ r m g.
@@ -213,7 +213,7 @@ lightest-is-twin p h candidates =
     ∙ same-good _ _ (keyOf p 4) nothing (picks letters 4) (λ r m.
     let (l, over) = pick-over letters 4 r m in
     rw (ascends-canonical r l (pick-ascends ascends 4 r m))
-    (good-tests p h r (over-below p 4 candidates r (mem-words letters 4 r .1 (l, over)) .1)))
+    (good-tests p h r (over-in-field p 4 letters (λ a m. mem-ascending (2 ^ degree p) candidates a .0 m .1) r l over)))
     ∙ sym (tried p nothing (picks letters 4))
 
 -- ---- the searches of document 01 over 19, computed

@@ -1,0 +1,88 @@
+// The tests of what a search is given, for its refusals.
+
+ghost use mathlib.Core.Path.{_≡_};
+ghost use Rattle.field.specs.Polynomial.{Modulus};
+ghost use Rattle.search.specs.Lightest.{member};
+ghost use Rattle.search.specs.Answer.{isWrongOrder, isWrongCount, someTooLarge, someRepeated, someBad};
+use crate::prices;
+
+// Whether the order is neither 4 nor 8.
+pub fn is_wrong_order(n: u32) -> bool
+    ensures { λ r. ⌜ r ≡ isWrongOrder n ⌝ }
+{
+    if n == 4 {
+        return false;
+    }
+    n != 8
+}
+
+// Whether the count of candidates is not allowed: 1 to 255 at order 4, 1 to 16 at order 8.
+pub fn is_wrong_count(n: u32, count: usize) -> bool
+    ensures { λ r. ⌜ r ≡ isWrongCount n count ⌝ }
+{
+    if count == 0 {
+        return true;
+    }
+    if n == 4 {
+        return 255 < count;
+    }
+    if n == 8 {
+        return 16 < count;
+    }
+    false
+}
+
+// Whether some value is 2^m or more.
+pub fn some_too_large(p: u16, values: &[u32]) -> bool
+    requires { ⌜ Modulus p ⌝ }
+    ensures { λ r. ⌜ r ≡ someTooLarge p (now (values .entry)) ⌝ }
+{
+    let end = prices::size(p) as u32;
+    let mut i = 0;
+    while i < values.len() {
+        if end <= values[i] {
+            return true;
+        }
+        i += 1;
+    }
+    false
+}
+
+// Whether x is among the values.
+fn is_member(x: u32, values: &[u32]) -> bool
+    ensures { λ r. ⌜ r ≡ member x (now (values .entry)) ⌝ }
+{
+    let mut i = 0;
+    while i < values.len() {
+        if values[i] == x {
+            return true;
+        }
+        i += 1;
+    }
+    false
+}
+
+// Whether some value stands more than one time.
+fn some_repeated(values: &[u32]) -> bool
+    ensures { λ r. ⌜ r ≡ someRepeated (now (values .entry)) ⌝ }
+{
+    let mut i = 0;
+    while i < values.len() {
+        let next = i + 1;
+        if is_member(values[i], &values[next..]) {
+            return true;
+        }
+        i = next;
+    }
+    false
+}
+
+// Whether a candidate is 0 or repeated.
+pub fn some_bad(values: &[u32]) -> bool
+    ensures { λ r. ⌜ r ≡ someBad (now (values .entry)) ⌝ }
+{
+    if is_member(0, values) {
+        return true;
+    }
+    some_repeated(values)
+}
