@@ -14,7 +14,7 @@ use Rattle.field.specs.Outcome.{Answer, accepted, refused, numberOf, ref
 use Rattle.field.proofs.Degrees.{polynomial}
 
 -- no number of a refusal is 0
-number-not-zero : (r : Refusal) → numberOf r ≡ 0 → ⊥
+pub number-not-zero : (r : Refusal) → numberOf r ≡ 0 → ⊥
 number-not-zero PolynomialRange e = let z : _≡_ {A = ℕ} 3 0 = e in omega arith
 number-not-zero Reducible e = let z : _≡_ {A = ℕ} 4 0 = e in omega arith
 number-not-zero OrderRange e = let z : _≡_ {A = ℕ} 5 0 = e in omega arith

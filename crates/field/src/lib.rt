@@ -209,7 +209,7 @@ pub fn checked_degree(p: u32) -> Outcome
 }
 
 // Whether the value is 2^m or more, m the degree.
-fn too_large(p: u16, a: u32) -> bool
+pub fn too_large(p: u16, a: u32) -> bool
     requires { ⌜ Modulus p ⌝ }
     ensures { λ r. ⌜ r ≡ isTooLarge p a ⌝ }
 {

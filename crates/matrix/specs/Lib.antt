@@ -7,3 +7,4 @@ pub mod Pairs
 pub mod Identity
 pub mod Regular
 pub mod Answers
+pub mod Yields

@@ -2,6 +2,7 @@
 
 pub mod block;
 pub mod branch;
+pub mod call;
 pub mod count;
 pub mod involution;
 pub mod multiply;

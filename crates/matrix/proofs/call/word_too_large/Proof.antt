@@ -1,0 +1,75 @@
+-- `matrix::call::word_too_large` meets its contract: none of the first j words is too large. Assumes nothing.
+use mathlib.Core.Path.{_≡_, refl, sym, _∙_}
+use mathlib.Core.Bool.{Bool, false}
+use mathlib.Core.List.{List}
+use Prim.Native.Nat.{ℕ, _-_, _≤_, zero-le}
+use native.Mathlib.Omega.{arith}
+use lib.ListN.{getD}
+use Rattle.field.specs.Outcome.{isTooLarge}
+use Rattle.matrix.specs.Answers.{someOf, someWordTooLarge}
+use Rattle.matrix.proofs.Judging.{some-next, some-found}
+use borrow.Author.Needs.{needs}
+use Rattle.matrix.proofs.call.word_too_large.Statement.{statement}
+use Rattle.matrix.proofs.call.word_too_large.Tie as tie
+
+-- word j is too large
+abbrev test : ℕ → List ℕ → ℕ → Bool
+test p row j = isTooLarge p (getD row j 0)
+
+abbrev Inv-loop : tie.InvT-loop
+Inv-loop p n row j₀ j = (j ≤ n) × (someOf j (test p row) ≡ false)
+
+abbrev μ-loop : tie.MeasureT-loop
+μ-loop p n row j₀ j = n - j
+
+loop-holds : tie.Need-loop-holds Inv-loop μ-loop
+unfolding someOf
+loop-holds c = (zero-le, refl)
+
+array-read-too-large : tie.Need-array-read-too-large Inv-loop μ-loop
+array-read-too-large c = search needs
+
+cast-too-large : tie.Need-cast-too-large Inv-loop μ-loop
+cast-too-large c = search needs
+
+too-large-requires : tie.Need-too-large-requires Inv-loop μ-loop
+too-large-requires c κs = search needs
+
+returns : tie.Need-returns Inv-loop μ-loop
+unfolding someWordTooLarge
+returns c =
+    let a = c .before .before .before .before .args in
+    sym (some-found (a .n) (test (a .p) (a .t2)) (c .before .before .before .loop .j) (c .before .before .loop-test .taken) (sym (c .before .too-large .ensures) ∙ c .if1 .taken))
+
+add-j : tie.Need-add-j Inv-loop μ-loop
+add-j c = search needs
+
+loop-less : tie.Need-loop-less Inv-loop μ-loop
+loop-less c = search needs
+
+loop-again : tie.Need-loop-again Inv-loop μ-loop
+loop-again c =
+    let a = c .before .before .before .before .args in
+    (omega (arith, c .before .before .loop-test .taken), some-next (c .before .before .before .loop .j) (test (a .p) (a .t2)) (c .before .before .before .loop .inv .1) (sym (c .before .too-large .ensures) ∙ c .if1 .left))
+
+returns-2 : tie.Need-returns-2 Inv-loop μ-loop
+unfolding someWordTooLarge
+returns-2 c =
+    let last : c .before .loop .j ≡ c .before .before .args .n = omega arith in
+    sym (rw last at (c .before .loop .inv .1))
+
+pub word-too-large-spec : {M : Type 1} → statement M
+word-too-large-spec =
+    tie.close
+    (tie.spec
+    Inv-loop
+    μ-loop
+    loop-holds
+    array-read-too-large
+    cast-too-large
+    too-large-requires
+    returns
+    add-j
+    loop-less
+    loop-again
+    returns-2)
