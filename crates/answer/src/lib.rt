@@ -1,1 +1,68 @@
 // One request text to one answer text.
+
+ghost use Prim.Native.Nat.{_≤_};
+ghost use lib.ListN.{length};
+ghost use Rattle.text.specs.Reading.{valuesFrom};
+ghost use Rattle.answer.specs.Due.{dueNumbers};
+ghost use Rattle.answer.specs.Answered.{Answered};
+ghost use Rattle.answer.specs.Replied.{Replied};
+
+mod check;
+mod reply;
+mod row;
+mod survey;
+
+use crate::reply::Reply;
+use crate::reply::refuse;
+
+// Answers a request in form by its kind. The values stand in the part of the request text that follows line one.
+fn answer_kind(
+    part: &[u8],
+    space: &mut [u8],
+    kind: u32,
+    polynomial: u32,
+    order: u32,
+    count: u32,
+) -> Reply
+    ensures { λ r. ⌜ Replied (dueNumbers kind polynomial order (valuesFrom (now (part .entry)) 0 count))
+        (now (space .entry)) (now (space .exit)) (r .number) (r .length) ⌝ }
+{
+    match kind {
+        1 => row::search_row(part, space, polynomial, order, count),
+        2 => check::check(part, space, polynomial, order, count),
+        3 => survey::survey(space, polynomial, order, count),
+        _ => refuse(space, 2),
+    }
+}
+
+// Answers a request text in the lent space: the number that is returned and the length of the answer.
+pub fn answer(request: &[u8], space: &mut [u8]) -> Reply
+    ensures { λ r. ⌜ Answered (now (request .entry)) (now (space .entry)) (now (space .exit)) (r .number) (r .length) ⌝ }
+{
+    match text::read_header(request) {
+        text::Header::Refused => refuse(space, 1),
+        text::Header::Read {
+            kind,
+            polynomial,
+            order,
+            count,
+        } => answer_kind(
+            &request[text::LINE_ONE..],
+            space,
+            kind,
+            polynomial,
+            order,
+            count,
+        ),
+    }
+}
+
+// The same for callers in C and Rust: the number is returned, and the length is stored.
+#[no_mangle]
+pub extern "C" fn rowfind_answer(request: &[u8], space: &mut [u8], length: &mut usize) -> u32
+    ensures { λ r. ⌜ Answered (now (request .entry)) (now (space .entry)) (now (space .exit)) r (now (length .exit)) ⌝ }
+{
+    let reply = answer(request, space);
+    *length = reply.length;
+    reply.number
+}

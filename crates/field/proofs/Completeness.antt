@@ -79,7 +79,7 @@ map-count f d (suc n) s (suc k) h = map-count f d n (suc s) k (le-of-suc-le-suc 
 -- ---- the table
 
 -- the polynomials of degree m in the table
-pub part : ℕ → List ℕ
+unfoldable pub part : ℕ → List ℕ
 part m = take (startOf (suc m) - startOf m) (drop (startOf m) table)
 
 -- the test: trial division of the numbers of each degree leaves just that degree's part of the table

@@ -18,7 +18,7 @@ use Rattle.field.specs.declared.Refusal.{Refusal}
 use Rattle.search.specs.declared.Best.{Best as Kept}
 use Rattle.search.specs.Kept.{answerOver, saysBest}
 use Rattle.search.specs.Lightest.{member, Best, nothing, found}
-use Rattle.search.specs.Answer.{isWrongOrder, isWrongCount, someTooLarge, someRepeated, someBad, SearchAnswer, noRow, refuseSearch, bestAnswer, lightestRow, searchAnswer}
+use Rattle.search.specs.Answer.{isWrongOrder, isWrongCount, someTooLarge, someRepeated, someBad, SearchAnswer, noRow, refuseSearch, bestAnswer, searchAnswer}
 
 -- ---- a test of every value
 

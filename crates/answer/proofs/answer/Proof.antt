@@ -1,0 +1,105 @@
+-- `answer::answer` meets its contract: a text that is not in form is refused with 1, any other is answered by its kind. Assumes nothing.
+use mathlib.Core.Path.{_≡_, sym, ap, _∙_}
+use native.Mathlib.Omega.{arith}
+use Prim.Native.Nat.{_≤_}
+use lib.ListN.{length}
+use denote.Ref.{now}
+use Rattle.text.specs.declared.Header.the-variants.{Read}
+use Rattle.text.specs.Reading.{headerOf}
+use Rattle.text.proofs.Form.{form-long}
+use Rattle.text.proofs.Requests.{header-read, header-refused}
+use Rattle.answer.proofs.Chains.{text-refused, text-numbers}
+use Rattle.answer.proofs.Replies.{answered}
+use borrow.Author.Needs.{needs}
+use Rattle.answer.proofs.answer.Statement.{statement}
+use Rattle.answer.proofs.answer.Tie as tie
+use Rattle.answer.proofs.answer.Reads as reads
+use Rattle.answer.proofs.answer.Lts as lts
+use Rattle.answer.proofs.answer_kind.Reads as answer-kind-reads
+use Rattle.answer.proofs.reply.refuse.Reads as refuse-reads
+use Rattle.text.proofs.read_header.Reads as read-header-reads
+
+-- src/lib.rt:35:11
+read-header-requires : tie.Need-read-header-requires
+read-header-requires c κs = search needs
+
+-- src/lib.rt:36:41
+enum-told : tie.Need-enum-told
+enum-told c = search needs
+
+-- src/lib.rt:36:34
+refuse-requires : tie.Need-refuse-requires
+refuse-requires c κs = search needs
+
+-- src/lib.rt:38:13
+enum-known-kind : tie.Need-enum-known-kind
+enum-known-kind c = search needs
+
+-- src/lib.rt:42:26
+
+-- line one is read
+header : (c : tie.After-known-told)
+    → headerOf (now (c .before .before .before .before .before .before .args .request))
+    ≡ Read (c .before .kind .given .0 .0) (c .before .kind .given .0 .1 .0) (c .before .kind .given .0 .1 .1 .0) (c .before .kind .given .0 .1 .1 .1 .0)
+header c = sym (c .before .before .before .read-header .ensures) ∙ c .before .kind .given .1
+
+long : (c : tie.After-known-told) → 25 ≤ length (now (c .before .before .before .before .before .before .args .request))
+long c =
+    let s = now (c .before .before .before .before .before .before .args .request) in
+    form-long s (header-read s _ _ _ _ (header c) .0)
+
+sub-answer-kind : tie.Need-sub-answer-kind
+sub-answer-kind c = long c
+
+-- src/lib.rt:42:26
+part-answer-kind-start : tie.Need-part-answer-kind-start
+part-answer-kind-start c = omega (arith, long c)
+
+-- src/lib.rt:42:26
+part-answer-kind-end : tie.Need-part-answer-kind-end
+part-answer-kind-end c = search needs
+
+-- src/lib.rt:42:14
+answer-kind-requires : tie.Need-answer-kind-requires
+answer-kind-requires c κs = search needs
+
+-- src/lib.rt:32:1
+same-length : tie.Need-same-length
+same-length c = search needs
+
+-- src/lib.rt:32:1
+returns : tie.Need-returns
+returns c =
+    let told = c .before .before .before .before in
+    let s = now (told .before .before .before .before .before .args .request) in
+    answered s
+    (rw (text-refused s (header-refused s (sym (told .before .before .read-header .ensures) ∙ told .enum-told .given .1))) (c .before .before .refuse .ensures))
+
+-- src/lib.rt:32:1
+same-length-2 : tie.Need-same-length-2
+same-length-2 c = search needs
+
+-- src/lib.rt:32:1
+returns-2 : tie.Need-returns-2
+returns-2 c =
+    let called = c .before .before in
+    let known = called .before .before .before in
+    let s = now (known .before .before .before .before .before .before .args .request) in
+    answered s (rw (text-numbers s _ _ _ _ (header known)) (called .answer-kind .ensures))
+
+pub answer-spec : {M : Type 1} → statement M
+answer-spec =
+    tie.close
+    (tie.spec
+    read-header-requires
+    enum-told
+    refuse-requires
+    enum-known-kind
+    sub-answer-kind
+    part-answer-kind-start
+    part-answer-kind-end
+    answer-kind-requires
+    same-length
+    returns
+    same-length-2
+    returns-2)

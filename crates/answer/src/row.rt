@@ -1,0 +1,81 @@
+// Kind 1: the lightest row.
+
+ghost use mathlib.Core.Path.{_≡_};
+ghost use Prim.Native.Nat.{ℕ, _≤_, min};
+ghost use lib.ListN.{take, getD};
+ghost use Rattle.field.specs.Polynomial.{Modulus};
+ghost use Rattle.matrix.specs.Counts.{elementCount};
+ghost use Rattle.text.specs.Text.{SixDigits};
+ghost use Rattle.text.specs.Reading.{valuesFrom};
+ghost use Rattle.answer.specs.Due.{lines, rowLines, searchDue};
+ghost use Rattle.answer.specs.Replied.{Replied};
+use crate::reply::Reply;
+use crate::reply::number_of;
+use crate::reply::put_answers;
+use crate::reply::refuse;
+
+// At most 256: one more than a search takes.
+fn at_most(count: u32) -> usize
+    ensures { λ r. ⌜ r ≡ min count 256 ⌝ }
+{
+    if count < 256 { count as usize } else { 256 }
+}
+
+// The first values, read from the part of a request text that follows line one.
+fn read_values(part: &[u8], count: usize) -> [u32; 256]
+    requires { ⌜ count ≤ 256 ⌝ }
+    ensures { λ r. ⌜ take count r ≡ valuesFrom (now (part .entry)) 0 count ⌝ }
+{
+    let mut values = [0u32; 256];
+    let mut i = 0;
+    while i < count {
+        values[i] = text::value_at(part, i);
+        i += 1;
+    }
+    values
+}
+
+fn wide(entry: u8) -> u32
+    ensures { λ r. ⌜ (r ≡ entry) × (r ≤ 255) ⌝ }
+{
+    entry as u32
+}
+
+// The entries of a row as numbers of a line.
+fn widened(row: [u8; 8]) -> [u32; 8]
+    ensures { λ r. ⌜ (r ≡ row) × SixDigits r ⌝ }
+{
+    let mut entries = [0u32; 8];
+    let mut i = 0;
+    while i < 8 {
+        entries[i] = wide(row[i]);
+        i += 1;
+    }
+    entries
+}
+
+// Writes a row that is found, if it fits: its counts, and its entries.
+fn put_row(space: &mut [u8], p: u16, n: usize, sum: u32, row: [u8; 8]) -> Reply
+    requires { ⌜ Modulus p × (1 ≤ n) × (n ≤ 8) × (sum ≡ elementCount p n (λ j. getD row j 0)) ⌝ }
+    ensures { λ r. ⌜ Replied (lines (rowLines p n sum row)) (now (space .entry)) (now (space .exit)) (r .number) (r .length) ⌝ }
+{
+    let order = n as u32;
+    let count = sum + (order - 1) * field::degree(p) as u32;
+    let entries = widened(row);
+    put_answers(space, &[0, sum, count, order * count], &entries[..n])
+}
+
+// The search over the candidates, which stand in the part of a request text that follows line one.
+pub fn search_row(part: &[u8], space: &mut [u8], p: u32, n: u32, count: u32) -> Reply
+    ensures { λ r. ⌜ Replied (searchDue p n (valuesFrom (now (part .entry)) 0 count)) (now (space .entry)) (now (space .exit)) (r .number) (r .length) ⌝ }
+{
+    let kept = at_most(count);
+    let values = read_values(part, kept);
+    let found = search::search(p, n, &values[..kept]);
+    let row = found.row;
+    let outcome = found.outcome;
+    match outcome {
+        field::Outcome::Refused(reason) => refuse(space, number_of(reason)),
+        field::Outcome::Value(sum) => put_row(space, p as u16, n as usize, sum, row),
+    }
+}
