@@ -1,0 +1,2 @@
+-- What the program writes lies within the space.
+pub mod Within

@@ -1,0 +1,2 @@
+-- What the program writes of the lent space.
+pub mod Shown
