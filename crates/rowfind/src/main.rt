@@ -2,7 +2,8 @@
 
 ghost use mathlib.Core.Path.{_≡_};
 ghost use Rattle.rowfind.specs.Shown.{shownBytes};
-use libc::{STDIN_FILENO, STDOUT_FILENO};
+use libc::STDIN_FILENO;
+use libc::STDOUT_FILENO;
 
 // How many bytes to write: the answer, or the line of a refusal.
 fn shown(number: u32, length: usize) -> usize
