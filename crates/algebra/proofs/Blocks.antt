@@ -9,7 +9,9 @@ use native.Mathlib.Omega.{arith}
 use lib.ListN.{length, getD, length-map}
 use Rattle.algebra.specs.Operations.{Operations, Field}
 use Rattle.algebra.specs.Matrix.{sum, weight, activity, apply, det, block, chosen}
-use Rattle.algebra.proofs.Rectangles.{dot, Kernel, sum-word, weight-le, getD-tabulate, length-tabulate}
+use Rattle.algebra.proofs.Rectangles.{dot, Kernel, sum-word}
+use Rattle.algebra.proofs.Words.{getD-tabulate}
+use Rattle.algebra.proofs.Weights.{weight-le, length-apply}
 use Rattle.algebra.proofs.Kernel.{hasKernel, has-to, has-from, det-to, det-from}
 use Rattle.algebra.proofs.Choices.{digits, maskOf, count, placesOf, mask-lt, length-digits, chosen-digits, chosen-mask, length-places, spread, support}
 use Rattle.algebra.proofs.Choices.{supportMask, others, nulls, length-spread, weight-spread, dot-spread, spread-support, length-others}
@@ -19,18 +21,13 @@ module _ (K : Operations) (L : Field K) where
   infixl 75 _⊗_
   open Operations K using (Element as E, null, isNull, times as _⊗_)
 
-  -- as many words as lines
-  length-apply : (n : ℕ) (f : ℕ → ℕ → E) (x : List E) → length (apply K n f x) ≡ n
-  unfolding apply
-  length-apply n f x = length-tabulate n (λ i. sum K n (λ j. f i j ⊗ getD x j null))
-
   -- word i of the output is line i with the input
   reads-apply : (n : ℕ) (f : ℕ → ℕ → E) (x : List E) → length x ≡ n → Reads K 0 (λ i. dot K (f i) x) (apply K n f x)
   unfolding apply
   reads-apply n f x e j l =
       ap (λ i. dot K (f i) x) (zero-add j)
       ∙ sym (sum-word K L n (f j) x e)
-      ∙ sym (getD-tabulate n (λ i. sum K n (λ j. f i j ⊗ getD x j null)) null j (rw (length-apply n f x) at l))
+      ∙ sym (getD-tabulate n (λ i. sum K n (λ j. f i j ⊗ getD x j null)) j null (rw (length-apply K n f x) at l))
 
   -- a line with spread words is the line's chosen entries with the words
   line-spread : (u : ℕ → E) (bs : List Bool) (y : List E) → length y ≡ count bs
@@ -45,7 +42,7 @@ module _ (K : Operations) (L : Field K) where
       → (x : List E) × (length x ≡ n) × (0 < weight K x) × (weight K x ≤ length (placesOf 0 bs))
       × (activity K n f x + length (placesOf 0 br) ≤ weight K x + n)
   unfolding activity block
-  padded n f br bs er es k = (x, size, rw same (k .heavy), rw same (omega (arith, weight-le K L y, k .size)), light)
+  padded n f br bs er es k = (x, size, rw same (k .heavy), rw same (omega (arith, weight-le K y, k .size)), light)
     where
       y : List E
       y = k .input
@@ -69,8 +66,8 @@ module _ (K : Operations) (L : Field K) where
       light =
           omega (
             arith,
-            weight-room K L 0 (λ i. dot K (f i) x) br (apply K n f x) (er ∙ sym (length-apply n f x)) (reads-apply n f x size) zeros,
-            length-apply n f x,
+            weight-room K L 0 (λ i. dot K (f i) x) br (apply K n f x) (er ∙ sym (length-apply K n f x)) (reads-apply n f x size) zeros,
+            length-apply K n f x,
             length-places 0 br,
           )
 
@@ -120,7 +117,7 @@ module _ (K : Operations) (L : Field K) where
       fits = length-others K L x ∙ sym (count-support K L x)
 
       full : count bs ≡ k
-      full = count-nulls K L k (apply K n f x) (rw (length-apply n f x) l)
+      full = count-nulls K L k (apply K n f x) (rw (length-apply K n f x) l)
 
   -- the same with masks
   of-input : (n : ℕ) (f : ℕ → ℕ → E) (x : List E) (k : ℕ) → length x ≡ n → 0 < weight K x → k + weight K (apply K n f x) ≤ n
@@ -132,7 +129,7 @@ module _ (K : Operations) (L : Field K) where
     maskOf (support K x),
     rw er at (mask-lt bs),
     rw es at (mask-lt (support K x)),
-    ap length cr ∙ length-places 0 bs ∙ count-nulls K L k (apply K n f x) (rw (length-apply n f x) l),
+    ap length cr ∙ length-places 0 bs ∙ count-nulls K L k (apply K n f x) (rw (length-apply K n f x) l),
     ap length cs ∙ length-places 0 (support K x) ∙ count-support K L x,
     refl,
     rw (cr, cs) (supported n f x k e h l),
@@ -142,7 +139,7 @@ module _ (K : Operations) (L : Field K) where
       bs = nulls K k (apply K n f x)
 
       er : length bs ≡ n
-      er = length-nulls K L k (apply K n f x) ∙ length-apply n f x
+      er = length-nulls K L k (apply K n f x) ∙ length-apply K n f x
 
       es : length (support K x) ≡ n
       es = length-map x (λ a. not (isNull a)) ∙ e
@@ -169,7 +166,7 @@ module _ (K : Operations) (L : Field K) where
       × (activity K n f x + length (chosen n r) ≡ length (chosen n s) + n)
   unfolding activity
   activity-kernel n f x e h =
-      let room : weight K (apply K n f x) ≤ n = omega (arith, weight-le K L (apply K n f x), length-apply n f x) in
+      let room : weight K (apply K n f x) ≤ n = omega (arith, weight-le K (apply K n f x), length-apply K n f x) in
       let w = of-input n f x (n - weight K (apply K n f x)) e h (omega arith) in (
         w .0,
         w .1,

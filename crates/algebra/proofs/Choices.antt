@@ -9,7 +9,8 @@ use lib.ListN.{length, getD}
 use Rattle.algebra.specs.Operations.{Operations, Field}
 use Rattle.algebra.specs.Matrix.{weight, placesFrom, chosen, atDigit, oneUnless}
 use Rattle.algebra.proofs.Laws.{times-null, null-plus}
-use Rattle.algebra.proofs.Rectangles.{dot, weight-null, weight-le, weight-cons-le}
+use Rattle.algebra.proofs.Rectangles.{dot, weight-null, weight-cons-le}
+use Rattle.algebra.proofs.Weights.{weight-le}
 
 -- ---- masks and digits
 
@@ -299,7 +300,7 @@ module _ (K : Operations) (L : Field K) where
   pub count-nulls : (k : ℕ) (x : List E) → k + weight K x ≤ length x → count (nulls K k x) ≡ k
   unfolding weight
   count-nulls k [] l = omega arith
-  count-nulls zero (a ∷ x) l = omega (arith, count-nulls zero x (omega (arith, weight-le K L x)))
+  count-nulls zero (a ∷ x) l = omega (arith, count-nulls zero x (omega (arith, weight-le K x)))
   count-nulls (suc k) (a ∷ x) l = at (isNull a) l (count-nulls (suc k) x) (count-nulls k x)
     where
       at : (b : Bool) → suc k + (oneUnless b + weight K x) ≤ suc (length x)

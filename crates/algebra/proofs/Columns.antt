@@ -11,7 +11,8 @@ use lib.ListN.{length, getD}
 use Rattle.algebra.specs.Operations.{Operations, Field}
 use Rattle.algebra.specs.Matrix.{tabulate, sum, weight, skip, without, det}
 use Rattle.algebra.proofs.Laws.{ring, sums, plus-comm, plus-null, plus-left-comm, times-comm, twice, join-left, join-right, isNull-times}
-use Rattle.algebra.proofs.Rectangles.{dot, sum-front}
+use Rattle.algebra.proofs.Rectangles.{dot}
+use Rattle.algebra.proofs.Sums.{additive, sum-first}
 
 -- the list of the columns
 abbrev pub Columns : Operations → Type 0
@@ -170,7 +171,7 @@ module _ (K : Operations) (L : Field K) where
   expand-sum zero F h = plus-comm K L (h 0 0 ⊗ F []) null
   expand-sum (suc n) F h =
       ap₂ (λ l z. h 0 0 ⊗ F l ⊕ z) (map-tabulate tail (suc n) (λ j. h (suc j))) (expand-sum n (λ l. F (tail (h 0) ∷ l)) (λ j. h (suc j)))
-      ∙ sym (sum-front K L (suc n) (λ j. h j 0 ⊗ F (tabulate (suc n) (λ k. tail (h (skip j k))))))
+      ∙ sym (sum-first K (additive K L) (suc n) (λ j. h j 0 ⊗ F (tabulate (suc n) (λ k. tail (h (skip j k))))))
 
   -- the definition's determinant is that of the list of its columns
   pub det-columns : (n : ℕ) (f : ℕ → ℕ → E) → det K n f ≡ detOf K n (tabulate n (λ j i. f i j))

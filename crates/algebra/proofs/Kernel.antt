@@ -17,8 +17,10 @@ use Rattle.algebra.proofs.Laws.{ring, equal-of-null, plus-comm, times-n
 use Rattle.algebra.proofs.Rectangles.{dot, applyTo, Kernel, dot-linear, dot-scaled, dot-weightless, weight-nulls, weight-scaled}
 use Rattle.algebra.proofs.Columns.{Columns, tail, detOf, line, Inserted, length-inserted, minor, minors, line-minors, find, moved, det-clear, det-columns}
 use Rattle.algebra.proofs.Columns.{det-alternating, expand-heads, to-front, from-front}
-use Rattle.algebra.proofs.Rectangles.{dot-null-line, sum-cong, getD-tabulate, length-tabulate}
-use Rattle.algebra.proofs.Rectangles.{weight-replicate, weight-other, weight-le, kernel-cong, kernel-of, of-kernel}
+use Rattle.algebra.proofs.Rectangles.{dot-null-line}
+use Rattle.algebra.proofs.Words.{getD-tabulate, length-tabulate}
+use Rattle.algebra.proofs.Weights.{weight-le}
+use Rattle.algebra.proofs.Rectangles.{weight-replicate, weight-other, kernel-cong, kernel-of, of-kernel}
 
 -- ---- elimination without division
 
@@ -94,16 +96,6 @@ module _ (K : Operations) where
   infixl 70 _⊕_
   infixl 75 _⊗_
   open Operations K using (Element as E, isNull, plus as _⊕_, times as _⊗_)
-
-  -- the determinant depends on nothing but the lines and columns below n
-  pub det-cong : (n : ℕ) (f g : ℕ → ℕ → E) → ((i j : ℕ) → i < n → j < n → f i j ≡ g i j) → det K n f ≡ det K n g
-  unfolding det without
-  det-cong zero f g e = refl
-  det-cong (suc n) f g e =
-      sum-cong K (suc n) (λ j. f 0 j ⊗ det K n (without f j)) (λ j. g 0 j ⊗ det K n (without g j)) (λ j l.
-      ap₂ (λ a b. a ⊗ b)
-      (e 0 j (omega arith) l)
-      (det-cong n (without f j) (without g j) (λ i k a b. e (suc i) (skip j k) (omega arith) (omega (arith, skip-le j k)))))
 
   -- what is found is a first place
   pub firstLine-first : (r : ℕ) (u : ℕ → E) → First K r u (firstLine K r u)
@@ -301,7 +293,7 @@ module _ (K : Operations) (L : Field K) where
 
   -- and where there is one, the elimination says so
   pub has-from : (c r : ℕ) (f : ℕ → ℕ → E) → Kernel K r c f → hasKernel K c r f ≡ true
-  has-from zero r f k = absurd (lt-irrefl 0 (omega (arith, k .heavy, k .size, weight-le K L (k .input))))
+  has-from zero r f k = absurd (lt-irrefl 0 (omega (arith, k .heavy, k .size, weight-le K (k .input))))
   has-from (suc c) r f k =
       ⊎-elim
       (λ n. hasKernel-none K c r f n)
@@ -415,7 +407,7 @@ module _ (K : Operations) (L : Field K) where
 
   -- and the other way round
   columns-from : (n : ℕ) (cs : Columns K) → length cs ≡ n → Kernel K n n (line K cs) → isNull (detOf K n cs) ≡ true
-  columns-from zero cs e k = absurd (lt-irrefl 0 (omega (arith, k .heavy, k .size, weight-le K L (k .input))))
+  columns-from zero cs e k = absurd (lt-irrefl 0 (omega (arith, k .heavy, k .size, weight-le K (k .input))))
   columns-from (suc n) cs e k =
       ⊎-elim
       (λ g. ap isNull (expand-heads K L (detOf K n) cs g) ∙ L .null-is)
@@ -426,7 +418,7 @@ module _ (K : Operations) (L : Field K) where
 
   -- the matrix and the list of its columns
   columns-line : (n : ℕ) (f : ℕ → ℕ → E) (i j : ℕ) → i < n → j < n → line K (tabulate n (λ j i. f i j)) i j ≡ f i j
-  columns-line n f i j l m = ap (λ (c : ℕ → E). c i) (getD-tabulate n (λ j i. f i j) (λ k. null) j m)
+  columns-line n f i j l m = ap (λ (c : ℕ → E). c i) (getD-tabulate n (λ j i. f i j) j (λ k. null) m)
 
   -- the determinant is null exactly if there is a kernel
   pub det-to : (n : ℕ) (f : ℕ → ℕ → E) → isNull (det K n f) ≡ true → Kernel K n n f

@@ -8,22 +8,9 @@ use native.Mathlib.Omega.{arith}
 use lib.ListN.{length, getD, replicate}
 use Rattle.algebra.specs.Operations.{Operations, Field}
 use Rattle.algebra.specs.Matrix.{tabulate, sum, weight, oneUnless}
+use Rattle.algebra.proofs.Sums.{additive, sum-first}
+use Rattle.algebra.proofs.Words.{getD-tabulate, length-tabulate}
 use Rattle.algebra.proofs.Laws.{ring, plus-comm, plus-assoc, times-null, join-left, isNull-times}
-
--- ---- lists that are tabulated
-
--- how many there are
-pub length-tabulate : {A : Type 0} (n : ℕ) (h : ℕ → A) → length (tabulate n h) ≡ n
-unfolding tabulate
-length-tabulate zero h = refl
-length-tabulate (suc n) h = ap suc (length-tabulate n (λ i. h (suc i)))
-
--- what stands at place i
-pub getD-tabulate : {A : Type 0} (n : ℕ) (h : ℕ → A) (d : A) (i : ℕ) → i < n → getD (tabulate n h) i d ≡ h i
-unfolding tabulate
-getD-tabulate zero h d i l = absurd (not-suc-le-zero l)
-getD-tabulate (suc n) h d zero l = refl
-getD-tabulate (suc n) h d (suc i) l = getD-tabulate n (λ k. h (suc k)) d i (le-of-suc-le-suc l)
 
 -- ---- definitions
 
@@ -41,12 +28,6 @@ module _ (K : Operations) where
   unfoldable pub applyTo : ℕ → ℕ → (ℕ → ℕ → E) → List E → List E
   applyTo r c f x = tabulate r (λ i. sum K c (λ j. f i j ⊗ getD x j null))
 
-  -- the places below n decide
-  pub sum-cong : (n : ℕ) (f g : ℕ → E) → ((i : ℕ) → i < n → f i ≡ g i) → sum K n f ≡ sum K n g
-  unfolding sum
-  sum-cong zero f g e = refl
-  sum-cong (suc n) f g e = ap₂ (λ a b. a ⊕ b) (sum-cong n f g (λ i l. e i (omega arith))) (e n (omega arith))
-
 -- an input of c words, not all zero, that r lines send to zero
 pub record Kernel (K : Operations) (r c : ℕ) (f : ℕ → ℕ → K .Element) : Type 0 where
   pub input : List (K .Element)
@@ -61,17 +42,11 @@ module _ (K : Operations) (L : Field K) where
   infixl 75 _⊗_
   open Operations K using (Element as E, null, isNull, plus as _⊕_, times as _⊗_)
 
-  -- a sum, its first summand taken out
-  pub sum-front : (n : ℕ) (f : ℕ → E) → sum K (suc n) f ≡ f 0 ⊕ sum K n (λ i. f (suc i))
-  unfolding sum
-  sum-front zero f = plus-comm K L null (f 0)
-  sum-front (suc n) f = ap (λ z. z ⊕ f (suc n)) (sum-front n f) ∙ plus-assoc K L (f 0) (sum K n (λ i. f (suc i))) (f (suc n))
-
   -- the definition's sum
   pub sum-dot : (u : ℕ → E) (x : List E) → sum K (length x) (λ j. u j ⊗ getD x j null) ≡ dot K u x
   unfolding sum
   sum-dot u [] = refl
-  sum-dot u (a ∷ x) = sum-front (length x) (λ j. u j ⊗ getD (a ∷ x) j null) ∙ ap (λ z. u 0 ⊗ a ⊕ z) (sum-dot (λ j. u (suc j)) x)
+  sum-dot u (a ∷ x) = sum-first K (additive K L) (length x) (λ j. u j ⊗ getD (a ∷ x) j null) ∙ ap (λ z. u 0 ⊗ a ⊕ z) (sum-dot (λ j. u (suc j)) x)
 
   -- the words of the input decide how much of the line is used
   pub dot-cong : (u v : ℕ → E) (x : List E) → ((j : ℕ) → j < length x → u j ≡ v j) → dot K u x ≡ dot K v x
@@ -144,12 +119,6 @@ module _ (K : Operations) (L : Field K) where
       at : (b : Bool) → oneUnless b + weight K x ≤ suc (weight K x)
       at true = omega arith
       at false = omega arith
-
-  -- at most the number of words
-  pub weight-le : (x : List E) → weight K x ≤ length x
-  unfolding weight
-  weight-le [] = omega arith
-  weight-le (a ∷ x) = le-trans (weight-cons-le a x) (omega (arith, weight-le x))
 
   -- an input of weight 0 gives null with every line
   pub dot-weightless : (u : ℕ → E) (x : List E) → weight K x ≡ 0 → dot K u x ≡ null

@@ -127,19 +127,6 @@ sorted-words s (suc n) = sorted-before s (sorted-words s n)
 -- ---- tables
 
 module _ {A : Type 0} where
-  -- a table of n entries
-  pub length-tabulate : (n : ℕ) (f : ℕ → A) → length (tabulate n f) ≡ n
-  unfolding tabulate
-  length-tabulate zero f = refl
-  length-tabulate (suc n) f = ap suc (length-tabulate n (λ i. f (suc i)))
-
-  -- its entry at a place
-  pub getD-tabulate : (n : ℕ) (f : ℕ → A) (i : ℕ) (d : A) → i < n → getD (tabulate n f) i d ≡ f i
-  unfolding tabulate
-  getD-tabulate zero f i d h = absurd (omega arith)
-  getD-tabulate (suc n) f zero d h = refl
-  getD-tabulate (suc n) f (suc i) d h = getD-tabulate n (λ i. f (suc i)) i d (omega arith)
-
   -- an entry is a member
   pub getD-mem : (l : List A) (i : ℕ) (d : A) → i < length l → List·Memᴰ (getD l i d) l
   getD-mem [] i d h = absurd (omega arith)
@@ -159,11 +146,6 @@ module _ {A : Type 0} where
   mem-tabulate zero f y m = absurd (List·Memᴰ·not-nil m)
   mem-tabulate (suc n) f y m =
       ⊎-elim (λ e. (0, omega arith, e)) (λ k. let (i, h, e) = mem-tabulate n (λ i. f (suc i)) y k in (suc i, omega arith, e)) (List·Memᴰ·cases-cons m)
-
--- a list is the table of its entries
-pub tabulate-getD : (row : List ℕ) (n : ℕ) → length row ≡ n → tabulate n (λ k. getD row k 0) ≡ row
-tabulate-getD row n l =
-    ext-getD 0 _ row (length-tabulate n _ ∙ sym l) λ i h. getD-tabulate n _ i 0 (omega (arith, length-tabulate n (λ k. getD row k 0)))
 
 -- the table of an ascending function ascends
 pub sorted-tabulate : (n : ℕ) (f : ℕ → ℕ) → ((i j : ℕ) → i < j → f i < f j) → Sorted _<_ (tabulate n f)

@@ -16,7 +16,8 @@ use borrow.Author.Tests.{ltb-true, ltb-false, eqb-true}
 use Rattle.algebra.specs.Matrix.{tabulate, words}
 use Rattle.search.specs.Lightest.{Earlier, Sorted, lightest}
 use Rattle.search.specs.Seven.{Move, from, three, seven, moves, moved, inOrder, everyMove, canonical, total, everyBelow, lowers, turnsBack, affine, sound}
-use Rattle.search.proofs.Rows.{earlier-at, mem-words, length-tabulate, getD-tabulate, getD-mem, mem-tabulate, tabulate-getD}
+use Rattle.search.proofs.Rows.{earlier-at, mem-words, getD-mem, mem-tabulate}
+use Rattle.algebra.proofs.Words.{length-tabulate, getD-tabulate, tabulate-getD}
 use Rattle.search.proofs.Canonical.{canonical-suffices}
 
 -- ---- the computed test of the table
@@ -165,7 +166,7 @@ module _ (n : ℕ) (m : Move) (inTable : List·Memᴰ m (moves n)) where
     unfolding Every SameTotal
     moved-total c =
         every-at (SameTotal n) (moves n) m (moves-ind (λ n ms. Every (SameTotal n) ms) total-four total-eight (λ n. tt) n) inTable c row
-        ∙ ap (total c) (tabulate-getD row n entries)
+        ∙ ap (total c) (tabulate-getD 0 n row entries)
 
     -- it is earlier than a row that violates the inequality
     pub moved-earlier : getD row (m .high) 0 < getD row (m .low) 0 → Earlier (moved n m row) row
