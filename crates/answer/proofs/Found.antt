@@ -2,7 +2,7 @@
 use mathlib.Core.Path.{_≡_, refl, sym, ap, ap₂, _∙_}
 use mathlib.Core.Logic.{_⊎_, inl, inr, ⊎-elim}
 use mathlib.Core.Bool.{Bool, true, false, not, _||_, _&&_, true≢false}
-use mathlib.Core.List.{List, [], _∷_, _++_, List·Memᴰ}
+use mathlib.Core.List.{List, [], _∷_, _++_, List·Memᴰ, List·Memᴰ·head, List·Memᴰ·tail}
 use Prim.Native.Nat.{ℕ, zero, suc, _+_, _-_, _*_, _^_, _≤_, _<_, min, zero-le}
 use native.Mathlib.Nat.{not-suc-le-zero, add-zero, zero-add, mul-le-mul, le-refl}
 use native.Mathlib.Numerals.{add-one}
@@ -27,7 +27,8 @@ use Rattle.text.proofs.Form.{six-none, six-more}
 use Rattle.text.specs.Reading.{valueAt, valuesFrom}
 use Rattle.text.proofs.Lengths.{length-valuesFrom}
 use Rattle.answer.specs.Due.{Due, refusal, lines, rowLines, searchDueAt, searchDue}
-use Rattle.answer.proofs.Values.{total-cong}
+use Rattle.answer.proofs.Surveys.{size-high}
+use Rattle.answer.proofs.Values.{neither, total-cong}
 
 -- ---- the values that are kept
 
@@ -110,18 +111,43 @@ filled-count p n row rest e =
     total-cong n (λ j. xorCount p (getD (row ++ rest) j 0)) (λ j. xorCount p (getD row j 0))
     (λ j l. ap (xorCount p) (List·getD-append row rest 0 j (rw e l)))
 
+-- every entry of a row over the candidates is below 256, and 0 where it is filled up
+small-entries : (b : ℕ) (row rest : List ℕ) → ((a : ℕ) → List·Memᴰ a row → a ≤ b) → ((i : ℕ) → getD rest i 0 ≤ b) → (i : ℕ) → getD (row ++ rest) i 0 ≤ b
+small-entries b [] rest h k i = k i
+small-entries b (x ∷ row) rest h k zero = h x (List·Memᴰ·head refl)
+small-entries b (x ∷ row) rest h k (suc i) = small-entries b row rest (λ a m. h a (List·Memᴰ·tail m)) k i
+
+zeros-small : (b n i : ℕ) → getD (replicate n 0) i 0 ≤ b
+zeros-small b zero i = zero-le
+zeros-small b (suc n) zero = zero-le
+zeros-small b (suc n) (suc i) = zeros-small b n i
+
+row-small : (p n sum : ℕ) (values row : List ℕ) → Modulus p → (best : Best) → lightestRow p n values ≡ best → record { number = 0; sum = sum; row = row } ≡ bestAnswer p n best
+    → (i : ℕ) → getD row i 0 ≤ 255
+unfolding lightestRow
+row-small p n sum values row h nothing f e i = let z : _≡_ {A = ℕ} 0 9 = ap (λ (a : SearchAnswer). a .number) e in let g : ⊥ = omega arith in absurd g
+row-small p n sum values row h (found r) f e i =
+    let over = mem-rows (2 ^ degree p) values n r .0 (row-sorted (isGood p n) (keyOf p n) (sorted-rows (2 ^ degree p) values n) r f .isRow) .1 in
+    rw (ap (λ (a : SearchAnswer). a .row) e)
+    (small-entries 255 r (replicate (8 - n) 0) (λ a m. let l = over a m .1 in omega (arith, l, size-high p h)) (zeros-small 255 (8 - n)) i)
+
 -- what an accepted search has shown
 pub record Accepted (p n sum : ℕ) (row : List ℕ) : Type 0 where
   pub modulus : Modulus p
   pub low : 1 ≤ n
   pub high : n ≤ 8
   pub counted : sum ≡ elementCount p n (λ j. getD row j 0)
+  pub small : (j : ℕ) → getD row j 0 ≤ 255
 
 -- the number of the answer is 0, so no refusal was taken
 refuse-not : (number : ℕ) (b : Bool) (sum : ℕ) (row : List ℕ) (rest : SearchAnswer)
     → record { number = 0; sum = sum; row = row } ≡ refuseSearch (suc number) b rest → (b ≡ false) × (record { number = 0; sum = sum; row = row } ≡ rest)
 refuse-not number true sum row rest e = let z : _≡_ {A = ℕ} 0 (suc number) = ap (λ (a : SearchAnswer). a .number) e in let f : ⊥ = omega arith in absurd f
 refuse-not number false sum row rest e = (refl, e)
+
+pub in-range : (p : ℕ) → isOutside p ≡ false → (4 ≤ p) × (p ≤ 511)
+unfolding isOutside
+in-range p e = let r = neither (ltb p 4) (ltb 511 p) e in (ltb-false p 4 (r .0), ltb-false 511 p (r .1))
 
 order-allowed : (n : ℕ) → isWrongOrder n ≡ false → (n ≡ 4) ⊎ (n ≡ 8)
 unfolding isWrongOrder
@@ -152,20 +178,14 @@ search-found p n sum values row e =
     let (bad, e₈) = refuse-not 7 (someBad values) sum row _ e₇ in
     let range = in-range p outside in
     let allowed = order-allowed n order in
+    let modulus : Modulus p = record { low = range .0; high = range .1; irreducible = not-false (isIrreducible p) reducible } in
     record {
-      modulus = record { low = range .0; high = range .1; irreducible = not-false (isIrreducible p) reducible };
+      modulus = modulus;
       low = ⊎-elim (λ (q : n ≡ 4). omega arith) (λ (q : n ≡ 8). omega arith) allowed;
       high = ⊎-elim (λ (q : n ≡ 4). omega arith) (λ (q : n ≡ 8). omega arith) allowed;
       counted = best-row p n sum values row (lightestRow p n values) refl e₈;
+      small = row-small p n sum values row modulus (lightestRow p n values) refl e₈;
     }
-  where
-    in-range : (p : ℕ) → isOutside p ≡ false → (4 ≤ p) × (p ≤ 511)
-    in-range p e = unfold isOutside in (go (ltb p 4) (ltb 511 p) refl refl e)
-      where
-        go : (x y : Bool) → ltb p 4 ≡ x → ltb 511 p ≡ y → (x || y) ≡ false → (4 ≤ p) × (p ≤ 511)
-        go true y f g e = absurd (true≢false e)
-        go false true f g e = absurd (true≢false e)
-        go false false f g e = (ltb-false p 4 f, ltb-false 511 p g)
 
 -- ---- the lines of a row
 

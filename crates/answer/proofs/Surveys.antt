@@ -11,7 +11,7 @@ use borrow.Author.Tests.{leb-true, eqb-true}
 use lib.Dec.{lit<, lit≤, leb, eqb}
 use lib.Pow.{pow-pos, pow-mono}
 use lib.ListN.{length, length-append, length-drop, getD, take, drop}
-use lib.Seq.{drop-cons, length-take-le}
+use lib.Seq.{drop-cons, length-take-le, getD-take, getD-drop}
 use Rattle.field.specs.Polynomial.{Modulus, degree, xorCount}
 use Rattle.field.specs.Table.{table, startOf, polynomials}
 use Rattle.field.proofs.Degrees.{polynomial}
@@ -76,7 +76,7 @@ six-survey p h =
 -- ---- the table
 
 -- a test of every number below n, computed
-every-at : (n : ℕ) (test : ℕ → Bool) → everyBelow n test ≡ true → (i : ℕ) → i < n → test i ≡ true
+pub every-at : (n : ℕ) (test : ℕ → Bool) → everyBelow n test ≡ true → (i : ℕ) → i < n → test i ≡ true
 unfolding everyBelow
 every-at zero test e i h = absurd (not-suc-le-zero h)
 every-at (suc n) test e i h =
@@ -109,6 +109,13 @@ pub start-most : (m : ℕ) → m ≤ 9 → startOf m ≤ 69
 start-most m h = leb-true (startOf m) 69 (every-at 10 (λ k. leb (startOf k) 69) computed m (omega arith))
   where
     computed : everyBelow 10 (λ k. leb (startOf k) 69) ≡ true
+    computed = unfold everyBelow startOf in refl
+
+-- at most 30 polynomials of a degree
+pub starts-few : (m : ℕ) → m ≤ 8 → startOf (m + 1) - startOf m ≤ 30
+starts-few m h = leb-true (startOf (m + 1) - startOf m) 30 (every-at 9 (λ k. leb (startOf (k + 1) - startOf k) 30) computed m (omega arith))
+  where
+    computed : everyBelow 9 (λ k. leb (startOf (k + 1) - startOf k) 30) ≡ true
     computed = unfold everyBelow startOf in refl
 
 -- the constant of the code
@@ -173,3 +180,16 @@ survey-length m l u =
       length-line first,
       length-lines (startOf m) (startOf (m + 1)) (start-most (m + 1) (omega arith)),
     ))
+
+pub polynomials-few : (m : ℕ) → 2 ≤ m → m ≤ 8 → length (polynomials m) ≤ 30
+polynomials-few m l u =
+    rw (polynomials-are m l u, length-table (startOf m) (startOf (m + 1)) (start-most (m + 1) (omega arith))) (starts-few m u)
+
+pub polynomials-modulus : (m : ℕ) → 2 ≤ m → m ≤ 8 → (i : ℕ) → i < length (polynomials m) → Modulus (getD (polynomials m) i 0)
+unfolding tableFrom
+polynomials-modulus m l u i h =
+    let first = startOf m in
+    let last = startOf (m + 1) in
+    let most = start-most (m + 1) (omega arith) in
+    let inside : i < last - first = rw (polynomials-are m l u, length-table first last most) at h in
+    rw (polynomials-are m l u, getD-take (last - first) (drop first table) i 0 inside, getD-drop first table i 0) (table-modulus (first + i) (omega arith))

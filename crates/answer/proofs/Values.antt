@@ -48,7 +48,7 @@ unfolding someTooLarge valuesFrom
 large-none p s i n h = let none : n - i ≡ 0 = omega arith in rw none
 
 -- where no value is too large, each is an element
-neither : (a b : Bool) → (a || b) ≡ false → (a ≡ false) × (b ≡ false)
+pub neither : (a b : Bool) → (a || b) ≡ false → (a ≡ false) × (b ≡ false)
 neither true b e = (e, (cc))
 neither false b e = (refl, e)
 

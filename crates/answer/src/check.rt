@@ -11,10 +11,10 @@ ghost use Rattle.search.specs.Answer.{someTooLarge};
 ghost use Rattle.text.specs.Reading.{valueAt, valuesFrom};
 ghost use Rattle.answer.specs.Due.{lines, checkLine, checkDue};
 ghost use Rattle.answer.specs.Replied.{Replied};
-use crate::reply::Reply;
-use crate::reply::number_of;
-use crate::reply::put_answer;
-use crate::reply::refuse;
+use crate::Reply;
+use crate::write::number_of;
+use crate::write::put_answer;
+use crate::write::refuse;
 
 // Whether one of the values is 2^m or more, m the degree. The values stand in the part of a request text that follows line one.
 fn some_too_large(p: u16, part: &[u8], count: usize) -> bool

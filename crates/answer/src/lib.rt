@@ -1,19 +1,22 @@
 // One request text to one answer text.
 
-ghost use Prim.Native.Nat.{_≤_};
-ghost use lib.ListN.{length};
 ghost use Rattle.text.specs.Reading.{valuesFrom};
 ghost use Rattle.answer.specs.Due.{dueNumbers};
 ghost use Rattle.answer.specs.Answered.{Answered};
 ghost use Rattle.answer.specs.Replied.{Replied};
 
 mod check;
-mod reply;
 mod row;
 mod survey;
+mod write;
 
-use crate::reply::Reply;
-use crate::reply::refuse;
+use crate::write::refuse;
+
+// The number that is returned, 0 where the request is accepted, and the length of the answer, 0 where it is refused.
+pub struct Reply {
+    pub number: u32,
+    pub length: usize,
+}
 
 // Answers a request in form by its kind. The values stand in the part of the request text that follows line one.
 fn answer_kind(

@@ -9,10 +9,10 @@ ghost use Rattle.text.specs.Text.{SixDigits};
 ghost use Rattle.text.specs.Reading.{valuesFrom};
 ghost use Rattle.answer.specs.Due.{lines, rowLines, searchDue};
 ghost use Rattle.answer.specs.Replied.{Replied};
-use crate::reply::Reply;
-use crate::reply::number_of;
-use crate::reply::put_answers;
-use crate::reply::refuse;
+use crate::Reply;
+use crate::write::number_of;
+use crate::write::put_answers;
+use crate::write::refuse;
 
 // At most 256: one more than a search takes.
 fn at_most(count: u32) -> usize
@@ -35,6 +35,7 @@ fn read_values(part: &[u8], count: usize) -> [u32; 256]
     values
 }
 
+// An entry as a number of a line.
 fn wide(entry: u8) -> u32
     ensures { λ r. ⌜ (r ≡ entry) × (r ≤ 255) ⌝ }
 {

@@ -12,8 +12,8 @@ ghost use Rattle.text.specs.Writing.{Put};
 ghost use Rattle.text.specs.Reading.{valuesFrom};
 ghost use Rattle.answer.specs.Due.{lines, surveyLine, surveyLines, surveyDue};
 ghost use Rattle.answer.specs.Replied.{Replied, linesFrom};
-use crate::reply::Reply;
-use crate::reply::refuse;
+use crate::Reply;
+use crate::write::refuse;
 
 // Where the polynomials of each degree begin in the table, and where the last ones end.
 const STARTS: [usize; 10] = [0, 0, 0, 1, 3, 6, 12, 21, 39, 69];

@@ -4,7 +4,7 @@ use mathlib.Core.Bool.{Bool, true, false, not, _&&_, _||_}
 use mathlib.Core.List.{List, []}
 use mathlib.Core.Logic.{⊎-elim}
 use Prim.Native.Nat.{ℕ, zero, suc, _+_, _*_, _%_, _^_, _≤_, _<_}
-use native.Mathlib.Nat.{not-suc-le-zero, le-refl, le-suc, le-trans, le-of-suc-le-suc, lt-of-lt-of-le, eq-or-lt-of-le, one-mul, mod-eq-of-lt}
+use native.Mathlib.Nat.{not-suc-le-zero, le-refl, le-suc, le-trans, le-antisymm, le-of-suc-le-suc, lt-of-lt-of-le, eq-or-lt-of-le, one-mul, mod-eq-of-lt}
 use native.Mathlib.Omega.{arith}
 use borrow.Author.Tests.{eq-eqb, ne-eqb, eqb-true}
 use lib.Count.{ones}
@@ -211,3 +211,16 @@ end-is n h = ap (λ (x : ℕ). x % 65536) (one-mul (2 ^ n)) ∙ mod-eq-of-lt (om
 
 pub end-choice : (n from step k r : ℕ) → n ≤ 8 → NextChoice from step (endOf n) k r → NextChoice from step (2 ^ n) k r
 end-choice n from step k r h w = subst (λ (x : ℕ). NextChoice from step x k r) (end-is n h) w
+
+-- ---- the next choice is one number
+
+not-before : (from step end k r s : ℕ) → NextChoice from step end k r → NextChoice from step end k s → r ≤ s
+not-before from step end k r s a b =
+    ⊎-elim (λ (l : r ≤ s). l)
+    (λ (l : s < r).
+    let between : (s < end) × (ones s ≡ k → ⊥) = a .first s (b .begins) l (b .aligned) in
+    absurd (between .1 (b .found (between .0))))
+    (le-or-lt r s)
+
+pub choice-unique : (from step end k r s : ℕ) → NextChoice from step end k r → NextChoice from step end k s → r ≡ s
+choice-unique from step end k r s a b = le-antisymm (not-before from step end k r s a b) (not-before from step end k s r b a)

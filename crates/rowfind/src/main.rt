@@ -1,23 +1,23 @@
 // The row finder as a filter: one request text on standard input, one answer text on standard output.
 
-ghost use mathlib.Core.Path.{_≡_};
-ghost use Rattle.rowfind.specs.Shown.{shownBytes};
-use libc::STDIN_FILENO;
-use libc::STDOUT_FILENO;
+ghost use Prim.Native.Nat.{_≤_};
+ghost use lib.ListN.{length};
+ghost use Rattle.answer.specs.Shown.{Shown};
 
-// How many bytes to write: the answer, or the line of a refusal.
-fn shown(number: u32, length: usize) -> usize
-    ensures { λ r. ⌜ r ≡ shownBytes number length ⌝ }
+// Answers a request. The result is how many bytes of the space are to be shown: the answer text, or the line of a refusal.
+fn respond(request: &[u8], space: &mut [u8]) -> usize
+    requires { ⌜ 583 ≤ length (now space) ⌝ }
+    ensures { λ r. ⌜ Shown (now (request .entry)) (now (space .exit)) r × (r ≤ length (now (space .entry))) ⌝ }
 {
-    if number == 0 { length } else { 7 }
+    let reply = answer::answer(request, space);
+    if reply.number == 0 { reply.length } else { 7 }
 }
 
-// A text of 4,097 bytes is longer than any that is accepted, so no more is read. Every answer is shorter than 4,096 bytes.
+// A text has at most 4,096 bytes: one more tells that it is too long. No answer has more than 583.
 fn main() {
     let mut request = [0u8; 4097];
-    let got = io::read_full(STDIN_FILENO, &mut request);
-    let mut space = [0u8; 4096];
-    let reply = answer::answer(&request[..got], &mut space);
-    let count = shown(reply.number, reply.length);
-    io::write_all(STDOUT_FILENO, &space[..count]);
+    let n = io::read_full(libc::STDIN_FILENO, &mut request);
+    let mut space = [0u8; 583];
+    let shown = respond(&request[..n], &mut space);
+    io::write_all(libc::STDOUT_FILENO, &space[..shown]);
 }

@@ -16,7 +16,7 @@ use Rattle.answer.proofs.answer.Tie as tie
 use Rattle.answer.proofs.answer.Reads as reads
 use Rattle.answer.proofs.answer.Lts as lts
 use Rattle.answer.proofs.answer_kind.Reads as answer-kind-reads
-use Rattle.answer.proofs.reply.refuse.Reads as refuse-reads
+use Rattle.answer.proofs.write.refuse.Reads as refuse-reads
 use Rattle.text.proofs.read_header.Reads as read-header-reads
 
 -- src/lib.rt:35:11

@@ -11,7 +11,7 @@ use Rattle.answer.proofs.answer_kind.Tie as tie
 use Rattle.answer.proofs.answer_kind.Reads as reads
 use Rattle.answer.proofs.answer_kind.Lts as lts
 use Rattle.answer.proofs.check.check.Reads as check-reads
-use Rattle.answer.proofs.reply.refuse.Reads as refuse-reads
+use Rattle.answer.proofs.write.refuse.Reads as refuse-reads
 use Rattle.answer.proofs.row.search_row.Reads as search-row-reads
 use Rattle.answer.proofs.survey.survey.Reads as survey-reads
 

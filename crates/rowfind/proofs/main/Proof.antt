@@ -1,69 +1,52 @@
--- `rowfind::main` is safe and ends. Assumes nothing.
-use mathlib.Core.Path.{_≡_, sym, subst₂}
-use Prim.Native.Nat.{ℕ, _≤_}
-use lib.Dec.{lit≤}
-use lib.ListN.{length}
+-- `rowfind::main` is safe and ends: what is lent lies within the two spaces. Assumes nothing.
+use mathlib.Core.Path.{sym}
 use lib.Seq.{length-take-le}
-use Rattle.rowfind.proofs.Within.{shown-within}
 use borrow.Author.Needs.{needs}
 use Rattle.rowfind.proofs.main.Statement.{statement}
 use Rattle.rowfind.proofs.main.Tie as tie
 use Rattle.rowfind.proofs.main.Reads as reads
 use Rattle.rowfind.proofs.main.Lts as lts
-use Rattle.answer.proofs.answer.Reads as answer-reads
 use Rattle.io.proofs.read_full.Reads as read-full-reads
 use Rattle.io.proofs.write_all.Reads as write-all-reads
-use Rattle.rowfind.proofs.shown.Reads as shown-reads
+use Rattle.rowfind.proofs.respond.Reads as respond-reads
 
--- src/main.rt:17:43
+-- src/main.rt:19:47
 slice-aggregate-read-full : tie.Need-slice-aggregate-read-full
 slice-aggregate-read-full c = search needs
 
--- src/main.rt:17:9
+-- src/main.rt:19:9
 read-full-requires : tie.Need-read-full-requires
 read-full-requires c κs = search needs
 
--- src/main.rt:19:32
+-- src/main.rt:21:25
 array-share-prefix-request : tie.Need-array-share-prefix-request
 array-share-prefix-request c = search needs
 
--- src/main.rt:19:32
-slice-aggregate-answer : tie.Need-slice-aggregate-answer
-slice-aggregate-answer c = search needs
+-- src/main.rt:21:25
+slice-aggregate-respond : tie.Need-slice-aggregate-respond
+slice-aggregate-respond c = search needs
 
--- src/main.rt:19:49
-slice-aggregate-answer-2 : tie.Need-slice-aggregate-answer-2
-slice-aggregate-answer-2 c = search needs
+-- src/main.rt:21:40
+slice-aggregate-respond-2 : tie.Need-slice-aggregate-respond-2
+slice-aggregate-respond-2 c = search needs
 
--- src/main.rt:19:9
-answer-requires : tie.Need-answer-requires
-answer-requires c κs = search needs
+-- src/main.rt:21:9
+respond-requires : tie.Need-respond-requires
+respond-requires c κs = search needs
 
--- src/main.rt:20:9
-shown-requires : tie.Need-shown-requires
-shown-requires c κs = search needs
-
--- what is written out lies within the space
-inside : (c : tie.After-shown) → c .shown .result ≤ length (c .before .before .answer .last .1 .0)
-inside c =
-    let reply = c .before .before .answer in
-    let long : length (reply .last .1 .0) ≡ 4096 = search needs in
-    subst₂ (λ (m n : ℕ). m ≤ n) (sym (c .shown .ensures)) (sym long)
-    (shown-within (reply .ensures) (lit≤ tt))
-
--- src/main.rt:21:34
+-- src/main.rt:22:40
 array-share-prefix-space : tie.Need-array-share-prefix-space
-array-share-prefix-space c = inside c
+array-share-prefix-space c = search needs
 
--- src/main.rt:21:34
+-- src/main.rt:22:40
 slice-aggregate-write-all : tie.Need-slice-aggregate-write-all
-slice-aggregate-write-all c = sym (length-take-le _ _ (inside (c .before)))
+slice-aggregate-write-all c = sym (length-take-le _ _ (array-share-prefix-space (c .before)))
 
--- src/main.rt:21:5
+-- src/main.rt:22:5
 write-all-requires : tie.Need-write-all-requires
 write-all-requires c κs = search needs
 
--- src/main.rt:15:1
+-- src/main.rt:17:1
 returns : tie.Need-returns
 returns c = search needs
 
@@ -74,10 +57,9 @@ main-spec =
     slice-aggregate-read-full
     read-full-requires
     array-share-prefix-request
-    slice-aggregate-answer
-    slice-aggregate-answer-2
-    answer-requires
-    shown-requires
+    slice-aggregate-respond
+    slice-aggregate-respond-2
+    respond-requires
     array-share-prefix-space
     slice-aggregate-write-all
     write-all-requires

@@ -14,8 +14,8 @@ use Rattle.answer.proofs.check.check.Tie as tie
 use Rattle.answer.proofs.check.check.Reads as reads
 use Rattle.answer.proofs.check.check.Lts as lts
 use Rattle.answer.proofs.check.check_over.Reads as check-over-reads
-use Rattle.answer.proofs.reply.number_of.Reads as number-of-reads
-use Rattle.answer.proofs.reply.refuse.Reads as refuse-reads
+use Rattle.answer.proofs.write.number_of.Reads as number-of-reads
+use Rattle.answer.proofs.write.refuse.Reads as refuse-reads
 use Rattle.field.proofs.checked_degree.Reads as checked-degree-reads
 
 -- src/check.rt:109:11

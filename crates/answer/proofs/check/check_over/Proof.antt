@@ -21,7 +21,7 @@ use Rattle.answer.proofs.check.check_over.Reads as reads
 use Rattle.answer.proofs.check.check_over.Lts as lts
 use Rattle.answer.proofs.check.put_check.Reads as put-check-reads
 use Rattle.answer.proofs.check.some_too_large.Reads as some-too-large-reads
-use Rattle.answer.proofs.reply.refuse.Reads as refuse-reads
+use Rattle.answer.proofs.write.refuse.Reads as refuse-reads
 
 -- src/check.rt:91:9
 refuse-requires : tie.Need-refuse-requires

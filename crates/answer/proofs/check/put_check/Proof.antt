@@ -21,7 +21,7 @@ use Rattle.answer.proofs.check.put_check.Reads as reads
 use Rattle.answer.proofs.check.put_check.Lts as lts
 use Rattle.answer.proofs.check.matrix_of.Reads as matrix-of-reads
 use Rattle.answer.proofs.check.yes_no.Reads as yes-no-reads
-use Rattle.answer.proofs.reply.put_answer.Reads as put-answer-reads
+use Rattle.answer.proofs.write.put_answer.Reads as put-answer-reads
 use Rattle.matrix.proofs.branch.branch_number.Reads as branch-number-reads
 use Rattle.matrix.proofs.count.matrix_count.Reads as matrix-count-reads
 use Rattle.matrix.proofs.involution.involution.Reads as involution-reads

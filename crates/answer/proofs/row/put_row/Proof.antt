@@ -15,7 +15,7 @@ use Rattle.answer.proofs.row.put_row.Statement.{statement}
 use Rattle.answer.proofs.row.put_row.Tie as tie
 use Rattle.answer.proofs.row.put_row.Reads as reads
 use Rattle.answer.proofs.row.put_row.Lts as lts
-use Rattle.answer.proofs.reply.put_answers.Reads as put-answers-reads
+use Rattle.answer.proofs.write.put_answers.Reads as put-answers-reads
 use Rattle.answer.proofs.row.widened.Reads as widened-reads
 use Rattle.field.proofs.degree.Reads as degree-reads
 

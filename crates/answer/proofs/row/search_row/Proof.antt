@@ -18,8 +18,8 @@ use Rattle.answer.proofs.row.search_row.Statement.{statement}
 use Rattle.answer.proofs.row.search_row.Tie as tie
 use Rattle.answer.proofs.row.search_row.Reads as reads
 use Rattle.answer.proofs.row.search_row.Lts as lts
-use Rattle.answer.proofs.reply.number_of.Reads as number-of-reads
-use Rattle.answer.proofs.reply.refuse.Reads as refuse-reads
+use Rattle.answer.proofs.write.number_of.Reads as number-of-reads
+use Rattle.answer.proofs.write.refuse.Reads as refuse-reads
 use Rattle.answer.proofs.row.at_most.Reads as at-most-reads
 use Rattle.answer.proofs.row.put_row.Reads as put-row-reads
 use Rattle.answer.proofs.row.read_values.Reads as read-values-reads

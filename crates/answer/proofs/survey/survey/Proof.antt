@@ -10,7 +10,7 @@ use Rattle.answer.proofs.survey.survey.Statement.{statement}
 use Rattle.answer.proofs.survey.survey.Tie as tie
 use Rattle.answer.proofs.survey.survey.Reads as reads
 use Rattle.answer.proofs.survey.survey.Lts as lts
-use Rattle.answer.proofs.reply.refuse.Reads as refuse-reads
+use Rattle.answer.proofs.write.refuse.Reads as refuse-reads
 use Rattle.answer.proofs.survey.put_survey.Reads as put-survey-reads
 
 -- src/survey.rt:114:9

@@ -1,4 +1,4 @@
-// What a call returns, and the texts that it writes.
+// The texts that a call writes.
 
 ghost use mathlib.Core.Path.{_≡_};
 ghost use mathlib.Core.List.{[], _∷_};
@@ -8,12 +8,7 @@ ghost use Rattle.field.specs.Outcome.{numberOf};
 ghost use Rattle.text.specs.Text.{SixDigits};
 ghost use Rattle.answer.specs.Due.{refusal, lines};
 ghost use Rattle.answer.specs.Replied.{Replied};
-
-// The number that is returned, 0 where the request is accepted, and the length of the answer, 0 where it is refused.
-pub struct Reply {
-    pub number: u32,
-    pub length: usize,
-}
+use crate::Reply;
 
 // Refuses with a number: its line is written where seven bytes are lent.
 pub fn refuse(space: &mut [u8], number: u32) -> Reply

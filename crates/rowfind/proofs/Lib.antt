@@ -1,2 +1,0 @@
--- What the program writes lies within the space.
-pub mod Within

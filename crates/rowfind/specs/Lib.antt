@@ -1,2 +1,0 @@
--- What the program writes of the lent space.
-pub mod Shown
