@@ -17,7 +17,7 @@ use Rattle.field.specs.Polynomial.{degree, isIrreducible}
 use Rattle.field.specs.Outcome.{isOutside}
 use Rattle.matrix.specs.Answers.{isWrongOrder as isNoOrder}
 use Rattle.search.specs.Lightest.{Best, nothing, found, rowsOver}
-use Rattle.search.specs.Answer.{SearchAnswer, searchAnswer, noRow, refuseSearch, bestAnswer, isGood, keyOf, isWrongOrder, isWrongCount, someTooLarge, someBad, lightestRow}
+use Rattle.search.specs.Answer.{SearchAnswer, searchAnswer, refuseSearch, bestAnswer, isGood, keyOf, isWrongOrder, isWrongCount, someTooLarge, someBad, lightestRow}
 use Rattle.search.proofs.Rows.{sorted-rows}
 use Rattle.search.proofs.Demand.{none-sorted}
 use Rattle.text.specs.Text.{answerText}

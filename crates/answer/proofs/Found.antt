@@ -1,10 +1,10 @@
 -- What is found by a search: the values that are kept, and the lines of a row. Assumes nothing.
-use mathlib.Core.Path.{_≡_, refl, sym, ap, ap₂, _∙_}
+use mathlib.Core.Path.{_≡_, refl, sym, ap, _∙_}
 use mathlib.Core.Logic.{_⊎_, inl, inr, ⊎-elim}
 use mathlib.Core.Bool.{Bool, true, false, not, _||_, _&&_, true≢false}
 use mathlib.Core.List.{List, [], _∷_, _++_, List·Memᴰ, List·Memᴰ·head, List·Memᴰ·tail}
 use Prim.Native.Nat.{ℕ, zero, suc, _+_, _-_, _*_, _^_, _≤_, _<_, min, zero-le}
-use native.Mathlib.Nat.{not-suc-le-zero, add-zero, zero-add, mul-le-mul, le-refl}
+use native.Mathlib.Nat.{add-zero, zero-add}
 use native.Mathlib.Numerals.{add-one}
 use native.Mathlib.Omega.{arith}
 use native.Mathlib.Decide.{decLt}
@@ -16,17 +16,17 @@ use Rattle.field.specs.Polynomial.{Modulus, degree, isIrreducible, xorCount}
 use Rattle.field.specs.Outcome.{numberOf, isOutside}
 use Rattle.field.specs.declared.Refusal.{Refusal}
 use Rattle.field.specs.declared.Refusal.the-variants.{PolynomialRange, Reducible, OrderRange, CountRange, ValueRange, BadCandidate, NoRow}
-use Rattle.matrix.specs.Counts.{elementCount, rowCount, total}
-use Rattle.matrix.proofs.Tallies.{elementCount-le, sums-le}
-use Rattle.search.specs.Lightest.{Best, nothing, found, rowsOver}
-use Rattle.search.specs.Answer.{SearchAnswer, searchAnswer, noRow, refuseSearch, bestAnswer, lightestRow, isGood, keyOf, isWrongOrder, isWrongCount, someTooLarge, someBad}
+use Rattle.matrix.specs.Counts.{elementCount, rowCount}
+use Rattle.matrix.proofs.Tallies.{elementCount-le}
+use Rattle.search.specs.Lightest.{Best, nothing, found}
+use Rattle.search.specs.Answer.{SearchAnswer, searchAnswer, refuseSearch, bestAnswer, lightestRow, isGood, keyOf, isWrongOrder, isWrongCount, someTooLarge, someBad}
 use Rattle.search.proofs.Rows.{mem-rows, sorted-rows}
 use Rattle.search.proofs.Demand.{row-sorted}
 use Rattle.text.specs.Text.{SixDigits}
 use Rattle.text.proofs.Form.{six-none, six-more}
 use Rattle.text.specs.Reading.{valueAt, valuesFrom}
 use Rattle.text.proofs.Lengths.{length-valuesFrom}
-use Rattle.answer.specs.Due.{Due, refusal, lines, rowLines, searchDueAt, searchDue}
+use Rattle.answer.specs.Due.{refusal, lines, rowLines, searchDueAt, searchDue}
 use Rattle.answer.proofs.Surveys.{size-high}
 use Rattle.answer.proofs.Values.{neither, total-cong}
 

@@ -1,18 +1,17 @@
 -- What stands at the start of the space after a call with at least 583 bytes: the answer, or the refusal's line. Assumes nothing.
-use mathlib.Core.Path.{_≡_, refl, sym, ap, _∙_}
-use mathlib.Core.Bool.{Bool, true, false, cond}
+use mathlib.Core.Path.{_≡_, refl, sym, _∙_}
+use mathlib.Core.Bool.{true}
 use mathlib.Core.List.{List, [], _∷_, _++_}
-use Prim.Native.Nat.{ℕ, suc, _+_, _≤_}
+use Prim.Native.Nat.{ℕ, suc, _≤_}
 use native.Mathlib.Omega.{arith}
 use borrow.Author.Tests.{le-leb}
 use lib.Dec.{leb}
 use lib.ListN.{length, take, drop, length-append}
 use lib.Seq.{take-at}
 use Rattle.text.specs.Text.{lineText, answerText}
-use Rattle.text.specs.Reading.{kindOf}
 use Rattle.text.proofs.Lengths.{length-line}
-use Rattle.answer.specs.Due.{Due, refusal, lines, due}
-use Rattle.answer.specs.Answered.{Rearranged, same, more, swapped, further, MayWrite, writtenAt, numberAt, lengthAt, spaceAt, Answered}
+use Rattle.answer.specs.Due.{Due, lines, due}
+use Rattle.answer.specs.Answered.{Rearranged, same, more, swapped, further, writtenAt, numberAt, lengthAt, spaceAt, Answered}
 use Rattle.answer.specs.Shown.{Shown, shownText}
 use Rattle.answer.specs.Faults.{faults, lowest}
 use Rattle.answer.proofs.Acceptance.{answer-short}

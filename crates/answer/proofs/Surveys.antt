@@ -1,14 +1,14 @@
 -- The sums of a survey, and its lines. Assumes nothing.
 use mathlib.Core.Path.{_≡_, refl, sym, ap, _∙_}
 use mathlib.Core.Logic.{⊎-elim}
-use mathlib.Core.Bool.{Bool, true, false}
+use mathlib.Core.Bool.{Bool, true}
 use mathlib.Core.List.{List, [], _∷_, _++_, map}
 use Prim.Native.Nat.{ℕ, zero, suc, _+_, _-_, _*_, _^_, _≤_, _<_}
-use native.Mathlib.Nat.{mul-suc, mul-le-mul, lt-of-le-of-lt, le-trans, not-suc-le-zero, eq-or-lt-of-le, le-of-suc-le-suc}
+use native.Mathlib.Nat.{mul-suc, mul-le-mul, le-trans, not-suc-le-zero, eq-or-lt-of-le, le-of-suc-le-suc}
 use native.Mathlib.Numerals.{add-one}
 use native.Mathlib.Omega.{arith}
 use borrow.Author.Tests.{leb-true, eqb-true}
-use lib.Dec.{lit<, lit≤, leb, eqb}
+use lib.Dec.{lit≤, leb, eqb}
 use lib.Pow.{pow-pos, pow-mono}
 use lib.ListN.{length, length-append, length-drop, getD, take, drop}
 use lib.Seq.{drop-cons, length-take-le, getD-take, getD-drop}

@@ -2,13 +2,12 @@
 -- Assumes nothing.
 use mathlib.Core.Path.{_≡_, refl, sym, ap, ap₂, _∙_}
 use mathlib.Core.Bool.{Bool, true, false, _||_}
-use mathlib.Core.List.{List, [], _∷_, _++_}
+use mathlib.Core.List.{List, [], _∷_}
 use Prim.Native.Nat.{ℕ, zero, suc, _+_, _-_, _*_, _^_, _≤_, _<_, zero-le}
-use native.Mathlib.Nat.{not-suc-le-zero, mul-le-mul, le-refl, suc-mul, add-zero, le-trans}
+use native.Mathlib.Nat.{not-suc-le-zero, mul-le-mul, le-refl, suc-mul, add-zero}
 use native.Mathlib.Numerals.{add-one}
 use native.Mathlib.Omega.{arith}
 use lib.Dec.{eqb}
-use lib.ListN.{getD, length}
 use Rattle.algebra.specs.Matrix.{branchNumber, isMds, isInvolution}
 use Rattle.algebra.proofs.Bridge.{branch-cong, mds-cong, involution-cong}
 use Rattle.field.specs.Polynomial.{Modulus, degree, xorCount}

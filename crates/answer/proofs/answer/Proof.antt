@@ -1,5 +1,5 @@
 -- `answer::answer` meets its contract: a text that is not in form is refused with 1, any other is answered by its kind. Assumes nothing.
-use mathlib.Core.Path.{_≡_, sym, ap, _∙_}
+use mathlib.Core.Path.{_≡_, sym, _∙_}
 use native.Mathlib.Omega.{arith}
 use Prim.Native.Nat.{_≤_}
 use lib.ListN.{length}
@@ -13,29 +13,18 @@ use Rattle.answer.proofs.Replies.{answered}
 use borrow.Author.Needs.{needs}
 use Rattle.answer.proofs.answer.Statement.{statement}
 use Rattle.answer.proofs.answer.Tie as tie
-use Rattle.answer.proofs.answer.Reads as reads
-use Rattle.answer.proofs.answer.Lts as lts
-use Rattle.answer.proofs.answer_kind.Reads as answer-kind-reads
-use Rattle.answer.proofs.write.refuse.Reads as refuse-reads
-use Rattle.text.proofs.read_header.Reads as read-header-reads
 
--- src/lib.rt:35:11
 read-header-requires : tie.Need-read-header-requires
 read-header-requires c κs = search needs
 
--- src/lib.rt:36:41
 enum-told : tie.Need-enum-told
 enum-told c = search needs
 
--- src/lib.rt:36:34
 refuse-requires : tie.Need-refuse-requires
 refuse-requires c κs = search needs
 
--- src/lib.rt:38:13
 enum-known-kind : tie.Need-enum-known-kind
 enum-known-kind c = search needs
-
--- src/lib.rt:42:26
 
 -- line one is read
 header : (c : tie.After-known-told)
@@ -51,23 +40,18 @@ long c =
 sub-answer-kind : tie.Need-sub-answer-kind
 sub-answer-kind c = long c
 
--- src/lib.rt:42:26
 part-answer-kind-start : tie.Need-part-answer-kind-start
 part-answer-kind-start c = omega (arith, long c)
 
--- src/lib.rt:42:26
 part-answer-kind-end : tie.Need-part-answer-kind-end
 part-answer-kind-end c = search needs
 
--- src/lib.rt:42:14
 answer-kind-requires : tie.Need-answer-kind-requires
 answer-kind-requires c κs = search needs
 
--- src/lib.rt:32:1
 same-length : tie.Need-same-length
 same-length c = search needs
 
--- src/lib.rt:32:1
 returns : tie.Need-returns
 returns c =
     let told = c .before .before .before .before in
@@ -75,11 +59,9 @@ returns c =
     answered s
     (rw (text-refused s (header-refused s (sym (told .before .before .read-header .ensures) ∙ told .enum-told .given .1))) (c .before .before .refuse .ensures))
 
--- src/lib.rt:32:1
 same-length-2 : tie.Need-same-length-2
 same-length-2 c = search needs
 
--- src/lib.rt:32:1
 returns-2 : tie.Need-returns-2
 returns-2 c =
     let called = c .before .before in

@@ -8,56 +8,40 @@ use Rattle.answer.proofs.Chains.{kind-search, kind-check, kind-survey, 
 use borrow.Author.Needs.{needs}
 use Rattle.answer.proofs.answer_kind.Statement.{statement}
 use Rattle.answer.proofs.answer_kind.Tie as tie
-use Rattle.answer.proofs.answer_kind.Reads as reads
-use Rattle.answer.proofs.answer_kind.Lts as lts
-use Rattle.answer.proofs.check.check.Reads as check-reads
-use Rattle.answer.proofs.write.refuse.Reads as refuse-reads
-use Rattle.answer.proofs.row.search_row.Reads as search-row-reads
-use Rattle.answer.proofs.survey.survey.Reads as survey-reads
 
--- src/lib.rt:24:14
 search-row-requires : tie.Need-search-row-requires
 search-row-requires c κs = search needs
 
--- src/lib.rt:25:14
 check-requires : tie.Need-check-requires
 check-requires c κs = search needs
 
--- src/lib.rt:26:14
 survey-requires : tie.Need-survey-requires
 survey-requires c κs = search needs
 
--- src/lib.rt:27:14
 refuse-requires : tie.Need-refuse-requires
 refuse-requires c κs = search needs
 
--- src/lib.rt:19:1
 same-length : tie.Need-same-length
 same-length c = search needs
 
--- src/lib.rt:19:1
 returns : tie.Need-returns
 returns c =
     let called = c .before .before in
     let a = called .before .before .before .before .before .args in
     rw (kind-search (a .kind) (a .polynomial) (a .order) (valuesFrom (now (a .part)) 0 (a .count)) (called .before .before .match .keys1)) (called .search-row .ensures)
 
--- src/lib.rt:19:1
 same-length-2 : tie.Need-same-length-2
 same-length-2 c = search needs
 
--- src/lib.rt:19:1
 returns-2 : tie.Need-returns-2
 returns-2 c =
     let called = c .before .before in
     let a = called .before .before .before .before .before .args in
     rw (kind-check (a .kind) (a .polynomial) (a .order) (valuesFrom (now (a .part)) 0 (a .count)) (called .before .before .match .keys2)) (called .check .ensures)
 
--- src/lib.rt:19:1
 same-length-3 : tie.Need-same-length-3
 same-length-3 c = search needs
 
--- src/lib.rt:19:1
 returns-3 : tie.Need-returns-3
 returns-3 c =
     let called = c .before .before in
@@ -69,11 +53,9 @@ returns-3 c =
     )
     (called .survey .ensures)
 
--- src/lib.rt:19:1
 same-length-4 : tie.Need-same-length-4
 same-length-4 c = search needs
 
--- src/lib.rt:19:1
 returns-4 : tie.Need-returns-4
 returns-4 c =
     let called = c .before .before in

@@ -1,5 +1,5 @@
 -- `answer::check::check` meets its contract: what the polynomial is refused for, the request is. Assumes nothing.
-use mathlib.Core.Path.{_≡_, sym, ap, _∙_}
+use mathlib.Core.Path.{sym, ap, _∙_}
 use native.Mathlib.Nat.{lt-of-le-of-lt}
 use lib.Dec.{lit<}
 use denote.Ref.{now}
@@ -11,30 +11,19 @@ use Rattle.answer.proofs.Chains.{check-refused}
 use borrow.Author.Needs.{needs}
 use Rattle.answer.proofs.check.check.Statement.{statement}
 use Rattle.answer.proofs.check.check.Tie as tie
-use Rattle.answer.proofs.check.check.Reads as reads
-use Rattle.answer.proofs.check.check.Lts as lts
-use Rattle.answer.proofs.check.check_over.Reads as check-over-reads
-use Rattle.answer.proofs.write.number_of.Reads as number-of-reads
-use Rattle.answer.proofs.write.refuse.Reads as refuse-reads
-use Rattle.field.proofs.checked_degree.Reads as checked-degree-reads
 
--- src/check.rt:109:11
 checked-degree-requires : tie.Need-checked-degree-requires
 checked-degree-requires c κs = search needs
 
--- src/check.rt:110:33
 enum-known-reason : tie.Need-enum-known-reason
 enum-known-reason c = search needs
 
--- src/check.rt:110:58
 number-of-requires : tie.Need-number-of-requires
 number-of-requires c κs = search needs
 
--- src/check.rt:110:44
 refuse-requires : tie.Need-refuse-requires
 refuse-requires c κs = search needs
 
--- src/check.rt:111:54
 enum-told : tie.Need-enum-told
 enum-told c = search needs
 
@@ -44,19 +33,15 @@ modulus c =
     degree-accepted (c .before .before .before .before .before .args .p) _
     (ap answerOf (sym (c .enum-told .given .1)) ∙ c .before .before .checked-degree .ensures) .0
 
--- src/check.rt:111:61
 cast-check-over : tie.Need-cast-check-over
 cast-check-over c = record { fits = lt-of-le-of-lt (modulus (c .before) .high) (lit< tt) }
 
--- src/check.rt:111:37
 check-over-requires : tie.Need-check-over-requires
 check-over-requires c κs = modulus (c .before)
 
--- src/check.rt:106:1
 same-length : tie.Need-same-length
 same-length c = search needs
 
--- src/check.rt:106:1
 returns : tie.Need-returns
 returns c =
     let called = c .before .before in
@@ -66,11 +51,9 @@ returns c =
     (ap answerOf (sym (told .reason .given .1)) ∙ told .before .before .checked-degree .ensures))
     (rw (called .before .number-of .ensures .0) at (called .refuse .ensures))
 
--- src/check.rt:106:1
 same-length-2 : tie.Need-same-length-2
 same-length-2 c = search needs
 
--- src/check.rt:106:1
 returns-2 : tie.Need-returns-2
 returns-2 c = search needs
 

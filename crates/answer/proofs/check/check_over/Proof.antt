@@ -1,37 +1,25 @@
 -- `answer::check::check_over` meets its contract: the refusals in their order. Assumes nothing.
-use mathlib.Core.Path.{_≡_, sym, ap, _∙_}
+use mathlib.Core.Path.{_≡_, sym, _∙_}
 use mathlib.Core.Bool.{false}
-use mathlib.Core.List.{List, [], _∷_}
-use Prim.Native.Nat.{ℕ, _+_, _*_, _^_, _<_, _≤_}
+use Prim.Native.Nat.{_+_, _*_, _≤_}
 use native.Mathlib.Nat.{mul-le-mul}
 use native.Mathlib.Omega.{arith}
 use denote.Ref.{now}
-use lib.ListN.{length}
-use Rattle.matrix.specs.Answers.{checkOf}
 use Rattle.search.specs.Answer.{someTooLarge}
-use Rattle.text.specs.Reading.{valueAt, valuesFrom}
+use Rattle.text.specs.Reading.{valuesFrom}
 use Rattle.text.proofs.Lengths.{length-valuesFrom}
-use Rattle.answer.specs.Due.{checkLine, matrixOf, lines, checkDue}
 use Rattle.answer.proofs.Chains.{check-low, check-high, check-count, check-large, check-accepted}
 use Rattle.answer.proofs.Values.{value-small, place-below, check-read}
 use borrow.Author.Needs.{needs}
 use Rattle.answer.proofs.check.check_over.Statement.{statement}
 use Rattle.answer.proofs.check.check_over.Tie as tie
-use Rattle.answer.proofs.check.check_over.Reads as reads
-use Rattle.answer.proofs.check.check_over.Lts as lts
-use Rattle.answer.proofs.check.put_check.Reads as put-check-reads
-use Rattle.answer.proofs.check.some_too_large.Reads as some-too-large-reads
-use Rattle.answer.proofs.write.refuse.Reads as refuse-reads
 
--- src/check.rt:91:9
 refuse-requires : tie.Need-refuse-requires
 refuse-requires c κs = search needs
 
--- src/check.rt:91:9
 same-length : tie.Need-same-length
 same-length c = search needs
 
--- src/check.rt:91:9
 returns : tie.Need-returns
 returns c =
     let tested = c .before .before .before .before in
@@ -39,15 +27,12 @@ returns c =
     rw (check-low (start .args .p) (start .args .n) (valuesFrom (now (start .args .part)) 0 (start .args .count)) (start .pre) (tested .if1 .taken))
     (c .before .before .refuse .ensures)
 
--- src/check.rt:94:9
 refuse-requires-2 : tie.Need-refuse-requires-2
 refuse-requires-2 c κs = search needs
 
--- src/check.rt:94:9
 same-length-2 : tie.Need-same-length-2
 same-length-2 c = search needs
 
--- src/check.rt:94:9
 returns-2 : tie.Need-returns-2
 returns-2 c =
     let tested = c .before .before .before .before in
@@ -59,19 +44,15 @@ returns-2 c =
 order-low : (c : tie.Else2) → 1 ≤ c .before .before .before .before .args .n
 order-low c = let d = c .before .if1 .left in omega (arith, d)
 
--- src/check.rt:96:17
 mul-if3 : tie.Need-mul-if3
 mul-if3 c = record { fits = omega (arith, mul-le-mul (c .if2 .left) (c .if2 .left)) }
 
--- src/check.rt:97:9
 refuse-requires-3 : tie.Need-refuse-requires-3
 refuse-requires-3 c κs = search needs
 
--- src/check.rt:97:9
 same-length-3 : tie.Need-same-length-3
 same-length-3 c = search needs
 
--- src/check.rt:97:9
 returns-3 : tie.Need-returns-3
 returns-3 c =
     let tested = c .before .before .before .before in
@@ -83,19 +64,15 @@ returns-3 c =
     (λ e. tested .if3 .taken (sym (length-valuesFrom s 0 (start .args .count)) ∙ e)))
     (c .before .before .refuse3 .ensures)
 
--- src/check.rt:99:8
 some-too-large-requires : tie.Need-some-too-large-requires
 some-too-large-requires c κs = search needs
 
--- src/check.rt:100:9
 refuse-requires-4 : tie.Need-refuse-requires-4
 refuse-requires-4 c κs = search needs
 
--- src/check.rt:100:9
 same-length-4 : tie.Need-same-length-4
 same-length-4 c = search needs
 
--- src/check.rt:100:9
 returns-4 : tie.Need-returns-4
 returns-4 c =
     let tested = c .before .before .before .before in
@@ -115,7 +92,6 @@ small c =
     let start = counted .before .before .before .before .before in
     rw (← counted .if3 .left) (sym (c .before .some-too-large .ensures) ∙ c .if4 .left)
 
--- src/check.rt:102:5
 put-check-requires : tie.Need-put-check-requires
 put-check-requires c κs =
     let right = c .before .before .before .before in
@@ -127,11 +103,9 @@ put-check-requires c κs =
       λ i j l m. value-small (start .args .p) (now (start .args .part)) (n * n) (i * n + j) (small (c .before)) (place-below n i j l m),
     )
 
--- src/check.rt:86:1
 same-length-5 : tie.Need-same-length-5
 same-length-5 c = search needs
 
--- src/check.rt:86:1
 returns-5 : tie.Need-returns-5
 returns-5 c =
     let tested = c .before .before .before .before in

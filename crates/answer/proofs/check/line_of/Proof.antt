@@ -1,5 +1,5 @@
 -- `answer::check::line_of` meets its contract. The loop's invariant: the values before place j are stored. Assumes nothing.
-use mathlib.Core.Path.{_≡_, refl, sym, ap, _∙_}
+use mathlib.Core.Path.{_≡_, refl}
 use Prim.Native.Nat.{ℕ, _+_, _-_, _≤_, _<_}
 use native.Mathlib.Nat.{not-suc-le-zero}
 use native.Mathlib.Omega.{arith}
@@ -10,9 +10,6 @@ use Rattle.text.specs.Reading.{valueAt}
 use borrow.Author.Needs.{needs}
 use Rattle.answer.proofs.check.line_of.Statement.{statement}
 use Rattle.answer.proofs.check.line_of.Tie as tie
-use Rattle.answer.proofs.check.line_of.Reads as reads
-use Rattle.answer.proofs.check.line_of.Lts as lts
-use Rattle.text.proofs.value_at.Reads as value-at-reads
 
 abbrev Inv-loop : tie.InvT-loop
 Inv-loop part first n line₀ j₀ line j = (j ≤ n) × (length line ≡ 8) × ((k : ℕ) → k < j → getD line k 0 ≡ valueAt part (first + k))
@@ -20,37 +17,29 @@ Inv-loop part first n line₀ j₀ line j = (j ≤ n) × (length line ≡ 8) × 
 abbrev μ-loop : tie.MeasureT-loop
 μ-loop part first n line₀ j₀ line j = n - j
 
--- src/check.rt:45:5
 loop-holds : tie.Need-loop-holds Inv-loop μ-loop
 loop-holds c = (search needs, refl, λ k l. absurd (not-suc-le-zero l))
 
--- src/check.rt:46:40
 add-value-at : tie.Need-add-value-at Inv-loop μ-loop
 add-value-at c = search needs
 
--- src/check.rt:46:19
 value-at-requires : tie.Need-value-at-requires Inv-loop μ-loop
 value-at-requires c κs = search needs
 
--- src/check.rt:46:19
 cast-line : tie.Need-cast-line Inv-loop μ-loop
 cast-line c =
     let start = c .before .before .before .before in
     omega (arith, c .value-at .ensures, start .pre .2 (c .before .before .loop .j) (search needs))
 
--- src/check.rt:46:9
 array-write-line : tie.Need-array-write-line Inv-loop μ-loop
 array-write-line c = search needs
 
--- src/check.rt:47:9
 add-j : tie.Need-add-j Inv-loop μ-loop
 add-j c = search needs
 
--- src/check.rt:45:5
 loop-less : tie.Need-loop-less Inv-loop μ-loop
 loop-less c = search needs
 
--- src/check.rt:45:5
 loop-again : tie.Need-loop-again Inv-loop μ-loop
 loop-again c =
     let a = c .before .before .before .before .args in
@@ -61,7 +50,6 @@ loop-again c =
           (c .value-at .ensures),
     )
 
--- src/check.rt:39:1
 returns : tie.Need-returns Inv-loop μ-loop
 returns c j l = c .before .loop .inv .2 j (omega arith)
 

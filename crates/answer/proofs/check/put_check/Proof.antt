@@ -1,12 +1,10 @@
 -- `answer::check::put_check` meets its contract: what is found of the matrix that was read is what is found of the values. Assumes nothing.
-use mathlib.Core.Path.{_≡_, sym, ap, _∙_}
-use mathlib.Core.List.{List, [], _∷_}
-use Prim.Native.Nat.{ℕ, _+_, _*_, _^_, _<_, _≤_}
+use mathlib.Core.Path.{_≡_}
+use mathlib.Core.List.{[], _∷_}
+use Prim.Native.Nat.{ℕ, _+_, _*_}
 use native.Mathlib.Nat.{lt-of-lt-of-le, lt-of-le-of-lt}
 use lib.Dec.{lit<}
-use native.Mathlib.Omega.{arith}
 use denote.Ref.{now}
-use Rattle.field.specs.Polynomial.{degree}
 use Rattle.matrix.specs.Numbers.{entry, InField}
 use Rattle.matrix.specs.Answers.{checkOf}
 use Rattle.text.specs.Reading.{valueAt}
@@ -17,16 +15,7 @@ use Rattle.answer.proofs.Values.{check-line, six-check}
 use borrow.Author.Needs.{needs}
 use Rattle.answer.proofs.check.put_check.Statement.{statement}
 use Rattle.answer.proofs.check.put_check.Tie as tie
-use Rattle.answer.proofs.check.put_check.Reads as reads
-use Rattle.answer.proofs.check.put_check.Lts as lts
-use Rattle.answer.proofs.check.matrix_of.Reads as matrix-of-reads
-use Rattle.answer.proofs.check.yes_no.Reads as yes-no-reads
-use Rattle.answer.proofs.write.put_answer.Reads as put-answer-reads
-use Rattle.matrix.proofs.branch.branch_number.Reads as branch-number-reads
-use Rattle.matrix.proofs.count.matrix_count.Reads as matrix-count-reads
-use Rattle.matrix.proofs.involution.involution.Reads as involution-reads
 
--- src/check.rt:77:9
 matrix-of-requires : tie.Need-matrix-of-requires
 matrix-of-requires c κs =
     let start = c .before .before in
@@ -37,31 +26,25 @@ inField : (c : tie.After-matrix-of) → InField (c .before .before .before .args
 unfolding InField
 inField c i j l m = let start = c .before .before .before in rw (c .matrix-of .ensures i j l m) (start .pre .3 i j l m)
 
--- src/check.rt:78:9
 branch-number-requires : tie.Need-branch-number-requires
 branch-number-requires c κs =
     let start = c .before .before .before in
     (start .pre .0, start .pre .1, start .pre .2, inField c)
 
--- src/check.rt:79:32
 add-yes-no : tie.Need-add-yes-no
 add-yes-no c = search needs
 
--- src/check.rt:79:9
 yes-no-requires : tie.Need-yes-no-requires
 yes-no-requires c κs = search needs
 
--- src/check.rt:80:29
 involution-requires : tie.Need-involution-requires
 involution-requires c κs =
     let start = c .before .before .before .before .before in
     (start .pre .0, start .pre .2, inField (c .before .before))
 
--- src/check.rt:80:9
 yes-no-requires-2 : tie.Need-yes-no-requires-2
 yes-no-requires-2 c κs = search needs
 
--- src/check.rt:81:9
 matrix-count-requires : tie.Need-matrix-count-requires
 matrix-count-requires c κs =
     let start = c .before .before .before .before .before .before .before in
@@ -91,24 +74,19 @@ six c =
     let start = c .before .before .before .before .before .before .before .before in
     rw (found c) at (six-check (start .args .p) (start .args .n) (values c) (start .pre .0) (start .pre .1) (start .pre .2) (start .pre .3))
 
--- src/check.rt:82:28
 cast-t15 : tie.Need-cast-t15
 unfolding SixDigits
 cast-t15 c = record { fits = lt-of-le-of-lt (six (c .before) 1) (lit< tt) }
 
--- src/check.rt:82:23
 slice-aggregate-put-answer : tie.Need-slice-aggregate-put-answer
 slice-aggregate-put-answer c = search needs
 
--- src/check.rt:82:5
 put-answer-requires : tie.Need-put-answer-requires
 put-answer-requires c κs = (search needs, six (c .before .before))
 
--- src/check.rt:72:1
 same-length : tie.Need-same-length
 same-length c = search needs
 
--- src/check.rt:72:1
 returns : tie.Need-returns
 unfolding values
 returns c = rw (found (c .before .before .before .before .before)) (c .before .before .put-answer .ensures)

@@ -1,7 +1,7 @@
 -- `answer::check::some_too_large` meets its contract. The loop's invariant: whether a value is too large is whether one from number i on is.
 -- Assumes nothing.
-use mathlib.Core.Path.{_≡_, refl, sym, ap, _∙_}
-use Prim.Native.Nat.{ℕ, _+_, _-_, _≤_}
+use mathlib.Core.Path.{_≡_, sym, ap, _∙_}
+use Prim.Native.Nat.{_-_, _≤_}
 use native.Mathlib.Nat.{sub-zero}
 use denote.Ref.{now}
 use Rattle.field.specs.Outcome.{isTooLarge}
@@ -11,10 +11,6 @@ use Rattle.answer.proofs.Values.{large-found, large-goes-on, large-none
 use borrow.Author.Needs.{needs}
 use Rattle.answer.proofs.check.some_too_large.Statement.{statement}
 use Rattle.answer.proofs.check.some_too_large.Tie as tie
-use Rattle.answer.proofs.check.some_too_large.Reads as reads
-use Rattle.answer.proofs.check.some_too_large.Lts as lts
-use Rattle.field.proofs.too_large.Reads as too-large-reads
-use Rattle.text.proofs.value_at.Reads as value-at-reads
 
 abbrev Inv-loop : tie.InvT-loop
 Inv-loop p part count i₀ i = (i ≤ count) × (someTooLarge p (valuesFrom part 0 count) ≡ someTooLarge p (valuesFrom part i (count - i)))
@@ -22,19 +18,15 @@ Inv-loop p part count i₀ i = (i ≤ count) × (someTooLarge p (valuesFrom part
 abbrev μ-loop : tie.MeasureT-loop
 μ-loop p part count i₀ i = count - i
 
--- src/check.rt:26:5
 loop-holds : tie.Need-loop-holds Inv-loop μ-loop
 loop-holds c = (search needs, rw sub-zero)
 
--- src/check.rt:27:32
 value-at-requires : tie.Need-value-at-requires Inv-loop μ-loop
 value-at-requires c κs = search needs
 
--- src/check.rt:27:12
 too-large-requires : tie.Need-too-large-requires Inv-loop μ-loop
 too-large-requires c κs = search needs
 
--- src/check.rt:28:13
 returns : tie.Need-returns Inv-loop μ-loop
 returns c =
     let at-loop = c .before .before .before .before in
@@ -42,15 +34,12 @@ returns c =
     let test = ap (isTooLarge (a .p)) (sym (c .before .before .value-at .ensures)) ∙ sym (c .before .too-large .ensures) ∙ c .if1 .taken in
     sym (at-loop .loop .inv .1 ∙ large-found (a .p) (now (a .part)) (at-loop .loop .i) (a .count) (search needs) test)
 
--- src/check.rt:30:9
 add-i : tie.Need-add-i Inv-loop μ-loop
 add-i c = search needs
 
--- src/check.rt:26:5
 loop-less : tie.Need-loop-less Inv-loop μ-loop
 loop-less c = search needs
 
--- src/check.rt:26:5
 loop-again : tie.Need-loop-again Inv-loop μ-loop
 loop-again c =
     let at-loop = c .before .before .before .before in
@@ -58,7 +47,6 @@ loop-again c =
     let test = ap (isTooLarge (a .p)) (sym (c .before .before .value-at .ensures)) ∙ sym (c .before .too-large .ensures) ∙ c .if1 .left in
     (search needs, at-loop .loop .inv .1 ∙ large-goes-on (a .p) (now (a .part)) (at-loop .loop .i) (a .count) (search needs) test)
 
--- src/check.rt:21:1
 returns-2 : tie.Need-returns-2 Inv-loop μ-loop
 returns-2 c =
     let a = c .before .before .before .args in

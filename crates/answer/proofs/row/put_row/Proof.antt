@@ -1,37 +1,25 @@
 -- `answer::row::put_row` meets its contract: the counts follow from the sum of the element counts. Assumes nothing.
-use mathlib.Core.Path.{_≡_, refl, sym, ap, ap₂, _∙_}
-use mathlib.Core.List.{List, [], _∷_}
+use mathlib.Core.Path.{refl, sym, ap}
 use Prim.Native.Nat.{ℕ, _+_, _-_, _*_, _≤_}
 use native.Mathlib.Nat.{mul-le-mul}
 use native.Mathlib.Omega.{arith}
-use lib.ListN.{getD, length, take}
+use lib.ListN.{getD}
 use lib.Seq.{length-take-le}
-use Rattle.field.specs.Polynomial.{degree}
 use Rattle.field.proofs.Degrees.{polynomial}
-use Rattle.answer.specs.Due.{rowLines}
 use Rattle.answer.proofs.Found.{row-lines, sum-le, six-row, six-take}
 use borrow.Author.Needs.{needs}
 use Rattle.answer.proofs.row.put_row.Statement.{statement}
 use Rattle.answer.proofs.row.put_row.Tie as tie
-use Rattle.answer.proofs.row.put_row.Reads as reads
-use Rattle.answer.proofs.row.put_row.Lts as lts
-use Rattle.answer.proofs.write.put_answers.Reads as put-answers-reads
-use Rattle.answer.proofs.row.widened.Reads as widened-reads
-use Rattle.field.proofs.degree.Reads as degree-reads
 
--- src/row.rt:55:17
 cast-order : tie.Need-cast-order
 cast-order c = search needs
 
--- src/row.rt:56:24
 sub-count : tie.Need-sub-count
 sub-count c = search needs
 
--- src/row.rt:56:37
 degree-requires : tie.Need-degree-requires
 degree-requires c κs = search needs
 
--- src/row.rt:56:37
 cast-count : tie.Need-cast-count
 cast-count c = search needs
 
@@ -57,31 +45,24 @@ most c =
     let low : start .args .sum + (start .args .n - 1) * c .degree .result ≤ 504 = omega (arith, sum-small c, products c) in
     mul-le-mul (start .pre .2) low
 
--- src/row.rt:56:17
 add-count : tie.Need-add-count
 add-count c = record { fits = omega (arith, sum-small c, products c) }
 
--- src/row.rt:57:19
 widened-requires : tie.Need-widened-requires
 widened-requires c κs = search needs
 
--- src/row.rt:58:41
 mul-t9 : tie.Need-mul-t9
 mul-t9 c = record { fits = omega (arith, most (c .before .before)) }
 
--- src/row.rt:58:24
 slice-aggregate-put-answers : tie.Need-slice-aggregate-put-answers
 slice-aggregate-put-answers c = search needs
 
--- src/row.rt:58:57
 array-share-prefix-entries : tie.Need-array-share-prefix-entries
 array-share-prefix-entries c = search needs
 
--- src/row.rt:58:57
 slice-aggregate-put-answers-2 : tie.Need-slice-aggregate-put-answers-2
 slice-aggregate-put-answers-2 c = sym (length-take-le _ _ (array-share-prefix-entries (c .before)))
 
--- src/row.rt:58:5
 put-answers-requires : tie.Need-put-answers-requires
 put-answers-requires c κs =
     let start = c .before .before .before .before .before .before in
@@ -93,11 +74,9 @@ put-answers-requires c κs =
       six-take n _ (c .before .before .before .widened .ensures .1),
     )
 
--- src/row.rt:51:1
 same-length : tie.Need-same-length
 same-length c = search needs
 
--- src/row.rt:51:1
 returns : tie.Need-returns
 returns c =
     let found = c .before .before .before .before .before .before in

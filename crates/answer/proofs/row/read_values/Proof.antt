@@ -1,21 +1,14 @@
 -- `answer::row::read_values` meets its contract. The loop's invariant: the values before number i are stored. Assumes nothing.
-use mathlib.Core.Path.{_≡_, refl, sym, ap, ap₂, _∙_}
-use mathlib.Core.List.{List, [], _∷_, _++_}
-use Prim.Native.Nat.{ℕ, suc, _+_, _-_, _≤_, _<_}
-use native.Mathlib.Nat.{zero-add}
-use native.Mathlib.Numerals.{add-one}
+use mathlib.Core.Path.{_≡_, refl}
+use Prim.Native.Nat.{_-_, _≤_}
 use native.Mathlib.Omega.{arith}
 use lib.ListN.{length, take, length-set}
-use lib.Seq.{take-suc-set}
 use denote.Ref.{now}
-use Rattle.text.specs.Reading.{valueAt, valuesFrom}
+use Rattle.text.specs.Reading.{valuesFrom}
 use Rattle.answer.proofs.Found.{values-stored}
 use borrow.Author.Needs.{needs}
 use Rattle.answer.proofs.row.read_values.Statement.{statement}
 use Rattle.answer.proofs.row.read_values.Tie as tie
-use Rattle.answer.proofs.row.read_values.Reads as reads
-use Rattle.answer.proofs.row.read_values.Lts as lts
-use Rattle.text.proofs.value_at.Reads as value-at-reads
 
 abbrev Inv-loop : tie.InvT-loop
 Inv-loop part count values₀ i₀ values i = (i ≤ count) × (length values ≡ 256) × (take i values ≡ valuesFrom part 0 i)
@@ -23,39 +16,31 @@ Inv-loop part count values₀ i₀ values i = (i ≤ count) × (length values �
 abbrev μ-loop : tie.MeasureT-loop
 μ-loop part count values₀ i₀ values i = count - i
 
--- src/row.rt:30:5
 loop-holds : tie.Need-loop-holds Inv-loop μ-loop
 unfolding valuesFrom
 loop-holds c = (search needs, refl, refl)
 
--- src/row.rt:31:21
 value-at-requires : tie.Need-value-at-requires Inv-loop μ-loop
 value-at-requires c κs = search needs
 
--- src/row.rt:31:9
 mul-values : tie.Need-mul-values Inv-loop μ-loop
 mul-values c = search needs
 
--- src/row.rt:31:9
 array-write-values : tie.Need-array-write-values Inv-loop μ-loop
 array-write-values c = search needs
 
--- src/row.rt:32:9
 add-i : tie.Need-add-i Inv-loop μ-loop
 add-i c = search needs
 
--- src/row.rt:30:5
 loop-less : tie.Need-loop-less Inv-loop μ-loop
 loop-less c = search needs
 
--- src/row.rt:30:5
 loop-again : tie.Need-loop-again Inv-loop μ-loop
 loop-again c =
     let a = c .before .before .before .before .args in
     let loop = c .before .before .loop in
     (search needs, simp length-set (loop .inv .1), values-stored (now (a .part)) (loop .i) (loop .values) _ (search needs) (loop .inv .2) (c .value-at .ensures))
 
--- src/row.rt:24:1
 returns : tie.Need-returns Inv-loop μ-loop
 returns c =
     let a = c .before .before .before .args in

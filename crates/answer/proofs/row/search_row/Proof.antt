@@ -1,9 +1,7 @@
 -- `answer::row::search_row` meets its contract: what the search answers of the values that are kept is what it answers of all.
 -- Assumes nothing.
-use mathlib.Core.Path.{_≡_, refl, sym, ap, _∙_}
-use Prim.Native.Nat.{ℕ}
+use mathlib.Core.Path.{_≡_, sym, ap, _∙_}
 use native.Mathlib.Nat.{lt-of-le-of-lt}
-use native.Mathlib.Omega.{arith}
 use lib.Dec.{lit<}
 use lib.Seq.{length-take-le}
 use denote.Ref.{now}
@@ -11,37 +9,23 @@ use Rattle.field.specs.declared.Outcome.{Outcome}
 use Rattle.search.specs.Answer.{searchAnswer}
 use Rattle.search.specs.Kept.{saysOutcome, saysSearch}
 use Rattle.text.specs.Reading.{valuesFrom}
-use Rattle.answer.specs.Due.{searchDue}
 use Rattle.answer.proofs.Found.{Accepted, search-kept, search-refused, search-accepted, search-found}
 use borrow.Author.Needs.{needs}
 use Rattle.answer.proofs.row.search_row.Statement.{statement}
 use Rattle.answer.proofs.row.search_row.Tie as tie
-use Rattle.answer.proofs.row.search_row.Reads as reads
-use Rattle.answer.proofs.row.search_row.Lts as lts
-use Rattle.answer.proofs.write.number_of.Reads as number-of-reads
-use Rattle.answer.proofs.write.refuse.Reads as refuse-reads
-use Rattle.answer.proofs.row.at_most.Reads as at-most-reads
-use Rattle.answer.proofs.row.put_row.Reads as put-row-reads
-use Rattle.answer.proofs.row.read_values.Reads as read-values-reads
-use Rattle.search.proofs.search.Reads as search-reads
 
--- src/row.rt:73:9
 at-most-requires : tie.Need-at-most-requires
 at-most-requires c κs = search needs
 
--- src/row.rt:74:18
 read-values-requires : tie.Need-read-values-requires
 read-values-requires c κs = search needs
 
--- src/row.rt:75:38
 array-share-prefix-values : tie.Need-array-share-prefix-values
 array-share-prefix-values c = search needs
 
--- src/row.rt:75:38
 slice-aggregate-search : tie.Need-slice-aggregate-search
 slice-aggregate-search c = sym (length-take-le _ _ (array-share-prefix-values (c .before)))
 
--- src/row.rt:75:9
 search-requires : tie.Need-search-requires
 search-requires c κs = search needs
 
@@ -58,23 +42,17 @@ asked c =
     ∙ ap (searchAnswer (a .p) (a .n)) (read .read-values .ensures ∙ ap (valuesFrom s 0) (read .before .at-most .ensures))
     ∙ search-kept (a .p) (a .n) s (a .count)
 
--- src/row.rt:79:33
 enum-known-outcome : tie.Need-enum-known-outcome
 enum-known-outcome c = search needs
 
--- src/row.rt:79:58
 number-of-requires : tie.Need-number-of-requires
 number-of-requires c κs = search needs
 
--- src/row.rt:79:44
 refuse-requires : tie.Need-refuse-requires
 refuse-requires c κs = search needs
 
--- src/row.rt:80:31
 enum-known-outcome-2 : tie.Need-enum-known-outcome-2
 enum-known-outcome-2 c = search needs
-
--- src/row.rt:80:54
 
 -- a row is found
 told : (c : tie.After-outcome2)
@@ -96,17 +74,14 @@ accepted c = search-found _ _ _ _ _ (told c)
 cast-put-row : tie.Need-cast-put-row
 cast-put-row c = record { fits = lt-of-le-of-lt (accepted (c .before .before) .modulus .high) (lit< tt) }
 
--- src/row.rt:80:39
 put-row-requires : tie.Need-put-row-requires
 put-row-requires c κs =
     let a = accepted (c .before .before) in
     (a .modulus, a .low, a .high, a .counted)
 
--- src/row.rt:70:1
 same-length : tie.Need-same-length
 same-length c = search needs
 
--- src/row.rt:70:1
 returns : tie.Need-returns
 returns c =
     let called = c .before .before in
@@ -117,11 +92,9 @@ returns c =
     (ap (λ (o : Outcome). saysOutcome o (searched .search .result .row)) (sym (refused .outcome .given .1)) ∙ asked searched))
     (rw (called .before .number-of .ensures .0) at (called .refuse .ensures))
 
--- src/row.rt:70:1
 same-length-2 : tie.Need-same-length-2
 same-length-2 c = search needs
 
--- src/row.rt:70:1
 returns-2 : tie.Need-returns-2
 returns-2 c =
     let called = c .before .before in

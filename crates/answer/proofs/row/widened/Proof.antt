@@ -1,6 +1,6 @@
 -- `answer::row::widened` meets its contract. The loop's invariant: the entries before place i are stored, and are bytes. Assumes nothing.
-use mathlib.Core.Path.{_≡_, refl, sym, ap, _∙_}
-use Prim.Native.Nat.{ℕ, _+_, _-_, _≤_, _<_}
+use mathlib.Core.Path.{_≡_, refl}
+use Prim.Native.Nat.{ℕ, _-_, _≤_, _<_}
 use native.Mathlib.Nat.{not-suc-le-zero}
 use native.Mathlib.Omega.{arith}
 use lib.ListN.{length, getD, length-set}
@@ -9,9 +9,6 @@ use Rattle.answer.proofs.Found.{same-entries, six-entries}
 use borrow.Author.Needs.{needs}
 use Rattle.answer.proofs.row.widened.Statement.{statement}
 use Rattle.answer.proofs.row.widened.Tie as tie
-use Rattle.answer.proofs.row.widened.Reads as reads
-use Rattle.answer.proofs.row.widened.Lts as lts
-use Rattle.answer.proofs.row.wide.Reads as wide-reads
 
 abbrev Inv-loop : tie.InvT-loop
 Inv-loop row entries₀ i₀ entries i = (i ≤ 8) × (length entries ≡ 8) × ((k : ℕ) → k < i → (getD entries k 0 ≡ getD row k 0) × (getD entries k 0 ≤ 255))
@@ -19,35 +16,27 @@ Inv-loop row entries₀ i₀ entries i = (i ≤ 8) × (length entries ≡ 8) × 
 abbrev μ-loop : tie.MeasureT-loop
 μ-loop row entries₀ i₀ entries i = 8 - i
 
--- src/row.rt:49:5
 loop-holds : tie.Need-loop-holds Inv-loop μ-loop
 loop-holds c = (search needs, refl, λ k l. absurd (not-suc-le-zero l))
 
--- src/row.rt:50:27
 array-read-wide : tie.Need-array-read-wide Inv-loop μ-loop
 array-read-wide c = search needs
 
--- src/row.rt:50:22
 wide-requires : tie.Need-wide-requires Inv-loop μ-loop
 wide-requires c κs = search needs
 
--- src/row.rt:50:9
 mul-entries : tie.Need-mul-entries Inv-loop μ-loop
 mul-entries c = search needs
 
--- src/row.rt:50:9
 array-write-entries : tie.Need-array-write-entries Inv-loop μ-loop
 array-write-entries c = search needs
 
--- src/row.rt:51:9
 add-i : tie.Need-add-i Inv-loop μ-loop
 add-i c = search needs
 
--- src/row.rt:49:5
 loop-less : tie.Need-loop-less Inv-loop μ-loop
 loop-less c = search needs
 
--- src/row.rt:49:5
 loop-again : tie.Need-loop-again Inv-loop μ-loop
 loop-again c =
     let a = c .before .before .before .args in
@@ -57,7 +46,6 @@ loop-again c =
       stored-more (λ k v. (v ≡ getD (a .t1) k 0) × (v ≤ 255)) (loop .entries) (loop .i) (c .wide .result) 0 (search needs) (loop .inv .2) (c .wide .ensures),
     )
 
--- src/row.rt:44:1
 returns : tie.Need-returns Inv-loop μ-loop
 returns c =
     let loop = c .before .loop in

@@ -1,7 +1,7 @@
 -- `answer::survey::count_sum` meets its contract. The loop's invariant: the sum is that of the elements passed. Assumes nothing.
 use mathlib.Core.Path.{_≡_, refl, sym, ap, _∙_}
-use Prim.Native.Nat.{ℕ, _≤_, _-_, _+_, _*_, _^_}
-use Rattle.field.specs.Polynomial.{degree, xorCount}
+use Prim.Native.Nat.{_≤_, _-_, _+_, _^_}
+use Rattle.field.specs.Polynomial.{degree}
 use Rattle.matrix.specs.Counts.{total}
 use Rattle.matrix.proofs.Tallies.{xorCount-le}
 use native.Mathlib.Omega.{arith}
@@ -9,10 +9,6 @@ use Rattle.answer.proofs.Surveys.{size-low, size-high, countsTo, counts
 use borrow.Author.Needs.{needs}
 use Rattle.answer.proofs.survey.count_sum.Statement.{statement}
 use Rattle.answer.proofs.survey.count_sum.Tie as tie
-use Rattle.answer.proofs.survey.count_sum.Reads as reads
-use Rattle.answer.proofs.survey.count_sum.Lts as lts
-use Rattle.answer.proofs.survey.nonzero.Reads as nonzero-reads
-use Rattle.field.proofs.xor_count.Reads as xor-count-reads
 
 abbrev Inv-loop : tie.InvT-loop
 Inv-loop p last sum₀ a₀ sum a = (a ≤ last) × (sum ≡ countsTo p a)
@@ -20,54 +16,44 @@ Inv-loop p last sum₀ a₀ sum a = (a ≤ last) × (sum ≡ countsTo p a)
 abbrev μ-loop : tie.MeasureT-loop
 μ-loop p last sum₀ a₀ sum a = last - a
 
--- src/survey.rt:32:9
 nonzero-requires : tie.Need-nonzero-requires Inv-loop μ-loop
 nonzero-requires c κs = search needs
 
--- src/survey.rt:35:5
 loop-holds : tie.Need-loop-holds Inv-loop μ-loop
 unfolding countsTo total
 loop-holds c = (search needs, refl)
 
--- src/survey.rt:36:9
 add-a : tie.Need-add-a Inv-loop μ-loop
 add-a c = search needs
 
--- src/survey.rt:37:36
 cast-xor-count : tie.Need-cast-xor-count Inv-loop μ-loop
 cast-xor-count c =
     let start = c .before .before .before in
     omega (arith, size-high (start .args .p) (start .pre))
 
--- src/survey.rt:37:16
 xor-count-requires : tie.Need-xor-count-requires Inv-loop μ-loop
 xor-count-requires c κs =
     let start = c .before .before .before in
     (start .pre, omega (arith, size-low (start .args .p) (start .pre), c .before .before .nonzero .ensures))
 
--- src/survey.rt:37:16
 cast-sum : tie.Need-cast-sum Inv-loop μ-loop
 cast-sum c = search needs
 
--- src/survey.rt:37:9
 add-sum : tie.Need-add-sum Inv-loop μ-loop
 add-sum c =
     let start = c .before .before .before .before in
     let a = c .before .before .loop .a in
     omega (arith, size-high (start .args .p) (start .pre), counts-le (start .args .p) a (start .pre), xorCount-le (start .args .p) (a + 1) (start .pre), c .xor-count .ensures)
 
--- src/survey.rt:35:5
 loop-less : tie.Need-loop-less Inv-loop μ-loop
 loop-less c = search needs
 
--- src/survey.rt:35:5
 loop-again : tie.Need-loop-again Inv-loop μ-loop
 loop-again c =
     let start = c .before .before .before .before in
     let a = c .before .before .loop .a in
     (search needs, rw (c .before .before .loop .inv .1, c .xor-count .ensures) (sym (counts-step (start .args .p) a)))
 
--- src/survey.rt:28:1
 returns : tie.Need-returns Inv-loop μ-loop
 unfolding countsTo
 returns c =

@@ -10,19 +10,13 @@ use Rattle.answer.proofs.Surveys.{size-low, size-high}
 use borrow.Author.Needs.{needs}
 use Rattle.answer.proofs.survey.nonzero.Statement.{statement}
 use Rattle.answer.proofs.survey.nonzero.Tie as tie
-use Rattle.answer.proofs.survey.nonzero.Reads as reads
-use Rattle.answer.proofs.survey.nonzero.Lts as lts
-use Rattle.field.proofs.degree.Reads as degree-reads
 
--- src/survey.rt:24:11
 degree-requires : tie.Need-degree-requires
 degree-requires c κs = search needs
 
--- src/survey.rt:24:11
 cast-result : tie.Need-cast-result
 cast-result c = search needs
 
--- src/survey.rt:24:6
 shl-result : tie.Need-shl-result
 shl-result c = omega (arith, c .degree .ensures, polynomial (c .before .args .p) (c .before .pre) .most)
 
@@ -34,11 +28,9 @@ shifted c =
     ∙ ap (λ (n : ℕ). n % 2 ^ 64) (one-mul (2 ^ degree p))
     ∙ mod-eq-of-lt (lt-of-le-of-lt (size-high p (c .before .pre)) (lit< tt))
 
--- src/survey.rt:24:5
 sub-result : tie.Need-sub-result
 sub-result c = omega (arith, shifted c, size-low (c .before .args .p) (c .before .pre))
 
--- src/survey.rt:20:1
 returns : tie.Need-returns
 returns c = ap (λ (n : ℕ). n - 1) (shifted c)
 

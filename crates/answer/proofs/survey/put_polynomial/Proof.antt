@@ -1,29 +1,18 @@
 -- `answer::survey::put_polynomial` meets its contract: the numbers are those of the polynomial's line, and fit their columns. Assumes nothing.
-use mathlib.Core.Path.{_≡_, sym, ap, _∙_}
-use mathlib.Core.List.{List, [], _∷_}
-use Prim.Native.Nat.{ℕ}
-use native.Mathlib.Omega.{arith}
-use Rattle.text.specs.Text.{SixDigits}
+use mathlib.Core.Path.{_≡_}
+use mathlib.Core.List.{[], _∷_}
 use Rattle.answer.specs.Due.{surveyLine}
 use Rattle.answer.proofs.Surveys.{six-survey}
 use borrow.Author.Needs.{needs}
 use Rattle.answer.proofs.survey.put_polynomial.Statement.{statement}
 use Rattle.answer.proofs.survey.put_polynomial.Tie as tie
-use Rattle.answer.proofs.survey.put_polynomial.Reads as reads
-use Rattle.answer.proofs.survey.put_polynomial.Lts as lts
-use Rattle.answer.proofs.survey.count_sum.Reads as count-sum-reads
-use Rattle.answer.proofs.survey.square_sum.Reads as square-sum-reads
-use Rattle.text.proofs.put_line.Reads as put-line-reads
 
--- src/survey.rt:63:9
 count-sum-requires : tie.Need-count-sum-requires
 count-sum-requires c κs = search needs
 
--- src/survey.rt:64:9
 square-sum-requires : tie.Need-square-sum-requires
 square-sum-requires c κs = search needs
 
--- src/survey.rt:65:31
 slice-aggregate-put-line : tie.Need-slice-aggregate-put-line
 slice-aggregate-put-line c = search needs
 
@@ -33,17 +22,14 @@ numbers : (c : tie.After-square-sum)
 unfolding surveyLine
 numbers c = rw (c .before .count-sum .ensures, c .square-sum .ensures)
 
--- src/survey.rt:65:5
 put-line-requires : tie.Need-put-line-requires
 put-line-requires c κs =
     let start = c .before .before .before .before .before in
     (search needs, rw (numbers (c .before .before)) at (six-survey (start .args .p) (start .pre .0)))
 
--- src/survey.rt:59:1
 same-length : tie.Need-same-length
 same-length c = search needs
 
--- src/survey.rt:59:1
 returns : tie.Need-returns
 returns c = rw (numbers (c .before .before .before .before .before)) (c .before .before .put-line .ensures)
 

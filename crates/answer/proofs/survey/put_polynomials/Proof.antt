@@ -1,21 +1,17 @@
 -- `answer::survey::put_polynomials` meets its contract. The loop's invariant: what is left to write is the lines from place i on.
 -- Assumes nothing.
-use mathlib.Core.Path.{_≡_, refl, sym, ap, _∙_}
 use Prim.Native.Nat.{_≤_, _-_}
 use native.Mathlib.Omega.{arith}
 use lib.ListN.{getD}
 use Rattle.field.specs.Table.{table}
 use Rattle.text.specs.Text.{lineText}
-use Rattle.text.proofs.Places.{Rest, rest-start, rest-step, rest-end, put-long}
+use Rattle.text.proofs.Places.{Rest, rest-start, rest-step, rest-end}
 use Rattle.answer.specs.Due.{surveyLine}
 use Rattle.answer.specs.Replied.{linesFrom}
 use Rattle.answer.proofs.Surveys.{table-modulus, length-lines, lines-next, lines-end}
 use borrow.Author.Needs.{needs}
 use Rattle.answer.proofs.survey.put_polynomials.Statement.{statement}
 use Rattle.answer.proofs.survey.put_polynomials.Tie as tie
-use Rattle.answer.proofs.survey.put_polynomials.Reads as reads
-use Rattle.answer.proofs.survey.put_polynomials.Lts as lts
-use Rattle.answer.proofs.survey.put_polynomial.Reads as put-polynomial-reads
 
 abbrev Inv-loop : tie.InvT-loop
 Inv-loop space₀ at first last next₀ i₀ space next i = (first ≤ i) × (i ≤ last) × Rest space₀ at (linesFrom first last) space next (linesFrom i last)
@@ -23,19 +19,15 @@ Inv-loop space₀ at first last next₀ i₀ space next i = (first ≤ i) × (i 
 abbrev μ-loop : tie.MeasureT-loop
 μ-loop space₀ at first last next₀ i₀ space next i = last - i
 
--- src/survey.rt:86:5
 loop-holds : tie.Need-loop-holds Inv-loop μ-loop
 loop-holds c = (search needs, search needs, rest-start _ _ _)
 
--- src/survey.rt:87:44
 mul-put-polynomial : tie.Need-mul-put-polynomial Inv-loop μ-loop
 mul-put-polynomial c = search needs
 
--- src/survey.rt:87:44
 array-read-put-polynomial : tie.Need-array-read-put-polynomial Inv-loop μ-loop
 array-read-put-polynomial c = search needs
 
--- src/survey.rt:87:9
 put-polynomial-requires : tie.Need-put-polynomial-requires Inv-loop μ-loop
 unfolding table
 put-polynomial-requires c κs =
@@ -46,15 +38,12 @@ put-polynomial-requires c κs =
       omega (arith, length-lines (at-loop .loop .i) last (start .pre .1), length-lines (start .args .first) last (start .pre .1)),
     )
 
--- src/survey.rt:88:9
 add-i : tie.Need-add-i Inv-loop μ-loop
 add-i c = search needs
 
--- src/survey.rt:86:5
 loop-less : tie.Need-loop-less Inv-loop μ-loop
 loop-less c = search needs
 
--- src/survey.rt:86:5
 loop-again : tie.Need-loop-again Inv-loop μ-loop
 unfolding table
 loop-again c =
@@ -67,11 +56,9 @@ loop-again c =
           (c .before .before .put-polynomial .ensures),
     )
 
--- src/survey.rt:80:1
 same-length : tie.Need-same-length Inv-loop μ-loop
 same-length c = c .before .loop .inv .2 .long
 
--- src/survey.rt:80:1
 returns : tie.Need-returns Inv-loop μ-loop
 returns c =
     let at-loop = c .before in

@@ -1,6 +1,6 @@
 -- `answer::survey::put_survey` meets its contract: line one, and the lines of the degree's part of the table, are the survey.
 -- Assumes nothing.
-use mathlib.Core.Path.{_≡_, refl, sym, ap, _∙_}
+use mathlib.Core.Path.{_≡_}
 use mathlib.Core.List.{List, [], _∷_, _++_}
 use Prim.Native.Nat.{ℕ, _+_, _-_, _*_, _≤_}
 use native.Mathlib.Omega.{arith}
@@ -16,25 +16,15 @@ use Rattle.answer.proofs.Replies.{lines-written, lines-short}
 use borrow.Author.Needs.{needs}
 use Rattle.answer.proofs.survey.put_survey.Statement.{statement}
 use Rattle.answer.proofs.survey.put_survey.Tie as tie
-use Rattle.answer.proofs.survey.put_survey.Reads as reads
-use Rattle.answer.proofs.survey.put_survey.Lts as lts
-use Rattle.answer.proofs.survey.put_polynomials.Reads as put-polynomials-reads
-use Rattle.answer.proofs.survey.start_of.Reads as start-of-reads
-use Rattle.text.proofs.put_line.Reads as put-line-reads
 
--- src/survey.rt:98:9
 start-of-requires : tie.Need-start-of-requires
 start-of-requires c κs = search needs
 
--- src/survey.rt:99:25
 add-start-of : tie.Need-add-start-of
 add-start-of c = search needs
 
--- src/survey.rt:99:9
 start-of-requires-2 : tie.Need-start-of-requires-2
 start-of-requires-2 c κs = search needs
-
--- src/survey.rt:100:17
 
 -- the part of the table, and the text of the survey
 low : (c : tie.After-start-of2) → c .before .start-of .result ≤ c .start-of2 .result
@@ -62,33 +52,26 @@ size c =
 sub-count : tie.Need-sub-count
 sub-count c = low c
 
--- src/survey.rt:101:27
 mul-if1 : tie.Need-mul-if1
 mul-if1 c = omega (arith, high c)
 
--- src/survey.rt:101:22
 add-if1 : tie.Need-add-if1
 add-if1 c = omega (arith, high c)
 
--- src/survey.rt:102:9
 returns : tie.Need-returns
 returns c = lines-short (surveyLines (c .before .before .before .before .args .m)) _ (omega (arith, size (c .before)))
 
--- src/survey.rt:104:46
 cast-t15 : tie.Need-cast-t15
 cast-t15 c = omega (arith, high (c .before .before))
 
--- src/survey.rt:104:41
 slice-aggregate-put-line : tie.Need-slice-aggregate-put-line
 slice-aggregate-put-line c = search needs
 
--- src/survey.rt:104:9
 put-line-requires : tie.Need-put-line-requires
 put-line-requires c κs =
     let placed = c .before .before .before in
     (omega (arith, low placed), six-more _ (search needs) (six-more _ (omega (arith, high placed)) six-none))
 
--- src/survey.rt:105:9
 put-polynomials-requires : tie.Need-put-polynomials-requires
 put-polynomials-requires c κs =
     let called = c .before .before .before in
@@ -99,11 +82,9 @@ put-polynomials-requires c κs =
       omega (arith, called .put-line .ensures .place, length-line first, put-long (lineText first) (called .put-line .ensures)),
     )
 
--- src/survey.rt:94:1
 same-length : tie.Need-same-length
 same-length c = search needs
 
--- src/survey.rt:94:1
 returns-2 : tie.Need-returns-2
 returns-2 c =
     let placed = c .before .before .before .before .before .before .before .before .before .before in

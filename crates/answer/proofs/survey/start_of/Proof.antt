@@ -3,18 +3,13 @@ use Rattle.answer.proofs.Surveys.{start-same}
 use borrow.Author.Needs.{needs}
 use Rattle.answer.proofs.survey.start_of.Statement.{statement}
 use Rattle.answer.proofs.survey.start_of.Tie as tie
-use Rattle.answer.proofs.survey.start_of.Reads as reads
-use Rattle.answer.proofs.survey.start_of.Lts as lts
 
--- src/survey.rt:76:5
 mul-result : tie.Need-mul-result
 mul-result c = search needs
 
--- src/survey.rt:76:5
 array-read-result : tie.Need-array-read-result
 array-read-result c = search needs
 
--- src/survey.rt:72:1
 returns : tie.Need-returns
 returns c = start-same (c .args .m) (c .pre)
 

@@ -1,5 +1,5 @@
 -- `answer::write::put_answer` meets its contract: the length is known before the first byte is written. Assumes nothing.
-use mathlib.Core.List.{List, [], _∷_}
+use mathlib.Core.List.{[], _∷_}
 use native.Mathlib.Omega.{arith}
 use denote.Ref.{now}
 use Rattle.text.proofs.Answers.{answer-one}
@@ -7,33 +7,24 @@ use Rattle.answer.proofs.Replies.{lines-written, lines-short, one-lengt
 use borrow.Author.Needs.{needs}
 use Rattle.answer.proofs.write.put_answer.Statement.{statement}
 use Rattle.answer.proofs.write.put_answer.Tie as tie
-use Rattle.answer.proofs.write.put_answer.Reads as reads
-use Rattle.answer.proofs.write.put_answer.Lts as lts
-use Rattle.text.proofs.put_line.Reads as put-line-reads
 
--- src/write.rt:49:22
 mul-if1 : tie.Need-mul-if1
 mul-if1 c = search needs
 
--- src/write.rt:49:22
 add-if1 : tie.Need-add-if1
 add-if1 c = search needs
 
--- src/write.rt:50:9
 returns : tie.Need-returns
 returns c =
     let a = now (c .before .before .before .args .numbers) in
     lines-short (a ∷ []) _ (omega (arith, one-length a))
 
--- src/write.rt:52:9
 put-line-requires : tie.Need-put-line-requires
 put-line-requires c κs = search needs
 
--- src/write.rt:45:1
 same-length : tie.Need-same-length
 same-length c = search needs
 
--- src/write.rt:45:1
 returns-2 : tie.Need-returns-2
 returns-2 c =
     let a = now (c .before .before .before .before .before .before .before .args .numbers) in

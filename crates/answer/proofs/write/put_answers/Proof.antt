@@ -1,5 +1,5 @@
 -- `answer::write::put_answers` meets its contract: the length is known before the first byte is written. Assumes nothing.
-use mathlib.Core.List.{List, [], _∷_}
+use mathlib.Core.List.{[], _∷_}
 use native.Mathlib.Omega.{arith}
 use denote.Ref.{now}
 use Rattle.text.specs.Text.{lineText}
@@ -9,27 +9,19 @@ use Rattle.answer.proofs.Replies.{lines-written, lines-short, two-text,
 use borrow.Author.Needs.{needs}
 use Rattle.answer.proofs.write.put_answers.Statement.{statement}
 use Rattle.answer.proofs.write.put_answers.Tie as tie
-use Rattle.answer.proofs.write.put_answers.Reads as reads
-use Rattle.answer.proofs.write.put_answers.Lts as lts
-use Rattle.text.proofs.put_line.Reads as put-line-reads
 
--- src/write.rt:61:22
 mul-if1 : tie.Need-mul-if1
 mul-if1 c = search needs
 
--- src/write.rt:61:42
 mul-if1-2 : tie.Need-mul-if1-2
 mul-if1-2 c = search needs
 
--- src/write.rt:61:22
 add-if1 : tie.Need-add-if1
 add-if1 c = search needs
 
--- src/write.rt:61:22
 add-if1-2 : tie.Need-add-if1-2
 add-if1-2 c = search needs
 
--- src/write.rt:62:9
 returns : tie.Need-returns
 returns c =
     let start = c .before .before .before .before in
@@ -37,11 +29,9 @@ returns c =
     let b = now (start .args .row) in
     lines-short (a ∷ b ∷ []) _ (omega (arith, two-length a b))
 
--- src/write.rt:64:9
 put-line-requires : tie.Need-put-line-requires
 put-line-requires c κs = search needs
 
--- src/write.rt:65:9
 put-line-requires-2 : tie.Need-put-line-requires-2
 put-line-requires-2 c κs =
     let called = c .before .before .before in
@@ -49,11 +39,9 @@ put-line-requires-2 c κs =
     let a = now (start .args .numbers) in
     (omega (arith, called .put-line .ensures .place, length-line a, put-long (lineText a) (called .put-line .ensures)), start .pre .3)
 
--- src/write.rt:57:1
 same-length : tie.Need-same-length
 same-length c = search needs
 
--- src/write.rt:57:1
 returns-2 : tie.Need-returns-2
 returns-2 c =
     let called = c .before .before .before .before .before .before in
