@@ -15,6 +15,8 @@ use Rattle.field.specs.Outcome.{isTooLarge}
 use Rattle.field.proofs.Calls.{not-too-large}
 use Rattle.matrix.specs.Numbers.{numbers, elements}
 use Rattle.matrix.specs.Counts.{total, elementCount, rowCount, matrixCount}
+use Rattle.matrix.specs.declared.call.Found.{Found}
+use Rattle.matrix.specs.Yields.{checkFound}
 use Rattle.matrix.specs.Answers.{yesNo, checkOf}
 use Rattle.matrix.proofs.Tallies.{rowCount-le, total-rows}
 use Rattle.matrix.proofs.Theorems.{branch-most}
@@ -106,18 +108,11 @@ pub matrixCount-le : (p n : ℕ) (f : ℕ → ℕ → ℕ) → Modulus p → n �
 matrixCount-le p n f h l =
     rw (← total-rows p n f) (omega (arith, total-most n 504 (λ i. rowCount p n (f i)) (λ i. rowCount-le p n (f i) h l)))
 
--- the line of a check, from what the code finds of a matrix with the same entries
-pub check-line : (p n : ℕ) (f g : ℕ → ℕ → ℕ) (branch mds involution count : ℕ) (back : Bool)
-    → ((i j : ℕ) → i < n → j < n → g i j ≡ f i j)
-    → branch ≡ branchNumber (numbers p) (elements p) n g
-    → mds ≡ yesNo (eqb branch (n + 1))
-    → back ≡ isInvolution (numbers p) (elements p) n g
-    → involution ≡ yesNo back
-    → count ≡ matrixCount p n g
-    → checkLine (checkOf p n f) ≡ 0 ∷ branch ∷ mds ∷ involution ∷ count ∷ []
-unfolding checkLine checkOf isMds
-check-line p n f g branch mds involution count back e b m v i k =
-    ap checkLine (check-cong p n f g (λ x y l r. sym (e x y l r))) ∙ rw (k, i, v, m, b, add-one n)
+-- what the call finds of a matrix with the same entries
+pub check-found : (p n : ℕ) (f g : ℕ → ℕ → ℕ) (r : Found) → ((i j : ℕ) → i < n → j < n → g i j ≡ f i j) → checkFound r ≡ checkOf p n g
+    → checkLine (checkOf p n f) ≡ 0 ∷ r .branch ∷ r .mds ∷ r .involution ∷ r .count ∷ []
+unfolding checkLine
+check-found p n f g r e d = ap checkLine (check-cong p n f g (λ x y l m. sym (e x y l m)) ∙ sym d)
 
 yesNo-le : (b : Bool) → yesNo b ≤ 1
 yesNo-le true = le-refl 1

@@ -60,13 +60,6 @@ fn matrix_of(part: &[u8], n: usize) -> [[u8; 8]; 8]
     m
 }
 
-// 1 for yes, 0 for no.
-fn yes_no(answer: bool) -> u32
-    ensures { λ r. ⌜ r ≡ yesNo answer ⌝ }
-{
-    if answer { 1 } else { 0 }
-}
-
 // Writes what is found of the matrix of order n, if it fits.
 fn put_check(part: &[u8], space: &mut [u8], p: u16, n: usize) -> Reply
     requires { ⌜ Modulus p × (1 ≤ n) × (n ≤ 8) × ((i j : ℕ) → i < n → j < n → valueAt (now part) (i * n + j) < 2 ^ degree p) ⌝ }
@@ -74,11 +67,12 @@ fn put_check(part: &[u8], space: &mut [u8], p: u16, n: usize) -> Reply
         (now (space .entry)) (now (space .exit)) (r .number) (r .length) ⌝ }
 {
     let m = matrix_of(part, n);
-    let branch = matrix::branch::branch_number(p, m, n);
-    let mds = yes_no(branch == n + 1);
-    let involution = yes_no(matrix::involution::involution(p, m, n));
-    let count = matrix::count::matrix_count(p, m, n);
-    put_answer(space, &[0, branch as u32, mds, involution, count])
+    let found = matrix::call::check(p, m, n);
+    let count = found.count;
+    put_answer(
+        space,
+        &[0, found.branch, found.mds, found.involution, count],
+    )
 }
 
 // The check over a polynomial that is accepted.
