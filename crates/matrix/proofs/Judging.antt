@@ -12,12 +12,12 @@ use lib.Dec.{eqb, ltb, lit<}
 use Rattle.field.specs.declared.Outcome.{Outcome}
 use Rattle.field.specs.declared.Outcome.the-variants.{Value, Refused}
 use Rattle.field.specs.declared.Refusal.{Refusal}
-use Rattle.field.specs.Polynomial.{Modulus, degree, isIrreducible}
+use Rattle.field.specs.Polynomial.{Modulus, degree, isIrreducible, someBelow}
 use Rattle.field.specs.Outcome.{Answer, numberOf, accepted, refused, answerOf, refuse, isOutside, overPolynomial, degreeAnswer}
 use Rattle.field.proofs.Calls.{degree-accepted, over-modulus, number-not-zero, not-too-large}
 use Rattle.matrix.specs.Numbers.{entry, InField, WordsInField}
 use Rattle.matrix.specs.Orders.{HalvingOrder}
-use Rattle.matrix.specs.Answers.{someOf, isWrongOrder, isWrongHalvedOrder, someWordTooLarge, someEntryTooLarge, overMatrix, wordsAt, CheckAnswer, checkRefused, checkAt}
+use Rattle.matrix.specs.Answers.{isWrongOrder, isWrongHalvedOrder, someWordTooLarge, someEntryTooLarge, overMatrix, wordsAt, CheckAnswer, checkRefused, checkAt}
 use Rattle.matrix.specs.Yields.{judged, refusedWords}
 
 -- ---- some number below n passes a test
@@ -26,23 +26,16 @@ or-none : (a b : Bool) → (a || b) ≡ false → (a ≡ false) × (b ≡ false)
 or-none false b e = (refl, e)
 or-none true b e = let z : _≡_ {A = ℕ} 0 1 = cc in let y : ⊥ = omega arith in absurd y
 
-pub some-next : (i : ℕ) (test : ℕ → Bool) → someOf i test ≡ false → test i ≡ false → someOf (i + 1) test ≡ false
-unfolding someOf
-some-next i test e d = rw add-one (ap₂ _||_ e d)
+pub some-next : (i : ℕ) (test : ℕ → Bool) → someBelow i test ≡ false → test i ≡ false → someBelow (i + 1) test ≡ false
+unfolding someBelow
+some-next i test e d = rw add-one (ap₂ _||_ d e)
 
-pub some-found : (n : ℕ) (test : ℕ → Bool) (i : ℕ) → i < n → test i ≡ true → someOf n test ≡ true
-unfolding someOf
-some-found zero test i l e = absurd (not-suc-le-zero l)
-some-found (suc n) test i l e =
-    ⊎-elim (λ (q : i ≡ n). ap (λ (b : Bool). someOf n test || b) (ap test (sym q) ∙ e) ∙ or-true (someOf n test))
-    (λ (q : i < n). ap (λ (b : Bool). b || test n) (some-found n test i q e)) (eq-or-lt-of-le (le-of-suc-le-suc l))
-
-pub some-none : (n : ℕ) (test : ℕ → Bool) → someOf n test ≡ false → (i : ℕ) → i < n → test i ≡ false
-unfolding someOf
+pub some-none : (n : ℕ) (test : ℕ → Bool) → someBelow n test ≡ false → (i : ℕ) → i < n → test i ≡ false
+unfolding someBelow
 some-none zero test e i l = absurd (not-suc-le-zero l)
 some-none (suc n) test e i l =
-    let w = or-none (someOf n test) (test n) e in
-    ⊎-elim (λ (q : i ≡ n). ap test q ∙ w .1) (λ (q : i < n). some-none n test (w .0) i q) (eq-or-lt-of-le (le-of-suc-le-suc l))
+    let w = or-none (test n) (someBelow n test) e in
+    ⊎-elim (λ (q : i ≡ n). ap test q ∙ w .0) (λ (q : i < n). some-none n test (w .1) i q) (eq-or-lt-of-le (le-of-suc-le-suc l))
 
 -- ---- what passes
 

@@ -6,7 +6,7 @@ use Prim.Native.Nat.{ℕ, zero, suc, _-_, _<_}
 use lib.Dec.{eqb, leb, ltb}
 use lib.ListN.{getD, replicate}
 use Rattle.algebra.specs.Matrix.{apply, hadamard, det, branchNumber, isMds, isInvolution}
-use Rattle.field.specs.Polynomial.{isIrreducible}
+use Rattle.field.specs.Polynomial.{someBelow}
 use Rattle.field.specs.Outcome.{Answer, accepted, refuse, overPolynomial, isTooLarge}
 use Rattle.matrix.specs.Numbers.{numbers, elements, entry}
 use Rattle.matrix.specs.Counts.{rowCount, matrixCount}
@@ -15,11 +15,6 @@ use Rattle.matrix.specs.Counts.{rowCount, matrixCount}
 abbrev pub yesNo : Bool → ℕ
 yesNo true = 1
 yesNo false = 0
-
--- some number below n passes the test
-unfoldable pub someOf : ℕ → (ℕ → Bool) → Bool
-someOf zero test = false
-someOf (suc n) test = someOf n test || test n
 
 -- 5: an order from 1 to 8; of a determinant, a size from 0 to 8; of the halved product, an order 1, 2, 4 or 8
 unfoldable pub isWrongOrder : ℕ → Bool
@@ -30,10 +25,10 @@ isWrongHalvedOrder n = not (eqb n 1 || eqb n 2 || eqb n 4 || eqb n 8)
 
 -- 7: some word of a row, or some entry of a matrix, is 2^m or more
 unfoldable pub someWordTooLarge : ℕ → ℕ → List ℕ → Bool
-someWordTooLarge p n row = someOf n (λ j. isTooLarge p (getD row j 0))
+someWordTooLarge p n row = someBelow n (λ j. isTooLarge p (getD row j 0))
 
 unfoldable pub someEntryTooLarge : ℕ → ℕ → (ℕ → ℕ → ℕ) → Bool
-someEntryTooLarge p n f = someOf n (λ i. someOf n (λ j. isTooLarge p (f i j)))
+someEntryTooLarge p n f = someBelow n (λ i. someBelow n (λ j. isTooLarge p (f i j)))
 
 -- 3, 4, 5 and 7 for a matrix of order n
 unfoldable pub overMatrix : ℕ → ℕ → (ℕ → ℕ → ℕ) → Answer → Answer

@@ -15,7 +15,9 @@ use lib.Seq.{ext-getD}
 use borrow.Author.Tests.{ltb-true, ltb-false, eqb-true}
 use Rattle.algebra.specs.Matrix.{tabulate, words}
 use Rattle.search.specs.Lightest.{Earlier, Sorted, lightest}
-use Rattle.search.specs.Seven.{Move, from, three, seven, moves, moved, inOrder, everyMove, canonical, total, everyBelow, lowers, turnsBack, affine, sound}
+use Rattle.search.specs.Seven.{Move, from, three, seven, moves, moved, inOrder, everyMove, canonical, total, lowers, turnsBack, affine, sound}
+use Rattle.matrix.specs.Regular.{everyBelow}
+use Rattle.matrix.proofs.Squares.{every-each}
 use Rattle.search.proofs.Rows.{earlier-at, mem-words, getD-mem, mem-tabulate}
 use Rattle.algebra.proofs.Words.{length-tabulate, getD-tabulate, tabulate-getD}
 use Rattle.search.proofs.Canonical.{canonical-suffices}
@@ -54,14 +56,6 @@ everyMove-at test (x ∷ ms) m e i =
     let (h, k) = and-split (test x) (everyMove test ms) e in
     ⊎-elim (λ (q : m ≡ x). ap test q ∙ h) (λ j. everyMove-at test ms m k j) (List·Memᴰ·cases-cons i)
 
--- a test that passes at every number below n passes at each
-everyBelow-at : (n : ℕ) (test : ℕ → Bool) → everyBelow n test ≡ true → (i : ℕ) → i < n → test i ≡ true
-unfolding everyBelow
-everyBelow-at zero test e i h = absurd (omega arith)
-everyBelow-at (suc n) test e i h =
-    let (k, l) = and-split (everyBelow n test) (test n) e in
-    elim (decLt i n) [ yes j ↦ everyBelow-at n test k i j | no j ↦ (let q : i ≡ n = omega arith in ap test q ∙ l) ]
-
 -- what the test shows of a move
 pub record Sound (n : ℕ) (m : Move) : Type 0 where
   pub ordered : m .low < m .high
@@ -81,15 +75,15 @@ sound-facts n m e =
     let (l₃, fixed) = and-split (ltb (m .low) (m .high) && ltb (m .high) n && eqb (from m (m .low)) (m .high)) (everyBelow (m .low) (λ i. eqb (from m i) i)) l in
     let (l₂, sent) = and-split (ltb (m .low) (m .high) && ltb (m .high) n) (eqb (from m (m .low)) (m .high)) l₃ in
     let (l₁, high) = and-split (ltb (m .low) (m .high)) (ltb (m .high) n) l₂ in
-    let turn : (i : ℕ) → i < n → (ltb (from m i) n ≡ true) × (eqb (from m (from m i)) i ≡ true) = λ i h. and-split _ _ (everyBelow-at n _ turns i h) in
+    let turn : (i : ℕ) → i < n → (ltb (from m i) n ≡ true) × (eqb (from m (from m i)) i ≡ true) = λ i h. and-split _ _ (every-each n _ turns i h) in
     record {
       ordered = ltb-true (m .low) (m .high) l₁;
       inside = ltb-true (m .high) n high;
       sends = eqb-true _ _ sent;
-      fixes = λ i h. eqb-true _ _ (everyBelow-at (m .low) _ fixed i h);
+      fixes = λ i h. eqb-true _ _ (every-each (m .low) _ fixed i h);
       below = λ i h. ltb-true (from m i) n (turn i h .0);
       back = λ i h. eqb-true (from m (from m i)) i (turn i h .1);
-      bits = λ i j h k. eqb-true _ _ (everyBelow-at n _ (everyBelow-at n _ bits i h) j k);
+      bits = λ i j h k. eqb-true _ _ (every-each n _ (every-each n _ bits i h) j k);
     }
 
 -- every move of the table passed the test

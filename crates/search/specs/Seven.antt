@@ -2,11 +2,12 @@
 -- theorems of proofs/Seven.antt show that the rows left out have an earlier row that is as good and as light.
 use mathlib.Core.Bool.{Bool, true, cond, _&&_}
 use mathlib.Core.List.{List, [], _∷_, foldl}
-use Prim.Native.Nat.{ℕ, zero, suc, _+_}
+use Prim.Native.Nat.{ℕ, _+_}
 use lib.Bits.{bitXor}
 use lib.Dec.{ltb, eqb}
 use lib.ListN.{getD}
 use Rattle.algebra.specs.Matrix.{tabulate}
+use Rattle.matrix.specs.Regular.{everyBelow}
 
 -- an inequality between the entries at two places, and an index map that moves a row which violates it to an earlier one
 pub record Move : Type 0 where
@@ -64,11 +65,6 @@ unfoldable pub total : (ℕ → ℕ) → List ℕ → ℕ
 total c row = foldl (λ sum a. sum + c a) 0 row
 
 -- ---- the computed test of the table
-
--- the test passes at 0, 1, .. n - 1
-unfoldable pub everyBelow : ℕ → (ℕ → Bool) → Bool
-everyBelow zero test = true
-everyBelow (suc n) test = everyBelow n test && test n
 
 -- the lower place is below the higher one, that below n; places below the lower one stay, and the higher one's entry comes
 -- to the lower place

@@ -5,8 +5,10 @@ use mathlib.Core.List.{List, []}
 use Prim.Native.Nat.{ℕ, _-_, _≤_, zero-le}
 use native.Mathlib.Omega.{arith}
 use lib.ListN.{getD}
-use Rattle.matrix.specs.Answers.{someOf, someWordTooLarge, someEntryTooLarge}
-use Rattle.matrix.proofs.Judging.{some-next, some-found}
+use Rattle.field.specs.Polynomial.{someBelow}
+use Rattle.matrix.specs.Answers.{someWordTooLarge, someEntryTooLarge}
+use Rattle.field.proofs.Irreducibility.{some-there}
+use Rattle.matrix.proofs.Judging.{some-next}
 use borrow.Author.Needs.{needs}
 use Rattle.matrix.proofs.call.entry_too_large.Statement.{statement}
 use Rattle.matrix.proofs.call.entry_too_large.Tie as tie
@@ -16,13 +18,13 @@ abbrev test : ℕ → ℕ → List (List ℕ) → ℕ → Bool
 test p n m i = someWordTooLarge p n (getD m i [])
 
 abbrev Inv-loop : tie.InvT-loop
-Inv-loop p n m i₀ i = (i ≤ n) × (someOf i (test p n m) ≡ false)
+Inv-loop p n m i₀ i = (i ≤ n) × (someBelow i (test p n m) ≡ false)
 
 abbrev μ-loop : tie.MeasureT-loop
 μ-loop p n m i₀ i = n - i
 
 loop-holds : tie.Need-loop-holds Inv-loop μ-loop
-unfolding someOf
+unfolding someBelow
 loop-holds c = (zero-le, refl)
 
 mul-line : tie.Need-mul-line Inv-loop μ-loop
@@ -38,7 +40,7 @@ returns : tie.Need-returns Inv-loop μ-loop
 unfolding someEntryTooLarge someWordTooLarge
 returns c =
     let a = c .before .before .before .before .before .args in
-    sym (some-found (a .n) (test (a .p) (a .n) (a .t2)) (c .before .before .before .before .loop .i) (c .before .before .before .loop-test .taken) (sym (c .before .word-too-large .ensures) ∙ c .if1 .taken))
+    sym (some-there (a .n) (test (a .p) (a .n) (a .t2)) (c .before .before .before .before .loop .i) (c .before .before .before .loop-test .taken) (sym (c .before .word-too-large .ensures) ∙ c .if1 .taken))
 
 add-i : tie.Need-add-i Inv-loop μ-loop
 add-i c = search needs

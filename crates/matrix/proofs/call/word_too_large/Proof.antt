@@ -6,8 +6,10 @@ use Prim.Native.Nat.{ℕ, _-_, _≤_, zero-le}
 use native.Mathlib.Omega.{arith}
 use lib.ListN.{getD}
 use Rattle.field.specs.Outcome.{isTooLarge}
-use Rattle.matrix.specs.Answers.{someOf, someWordTooLarge}
-use Rattle.matrix.proofs.Judging.{some-next, some-found}
+use Rattle.field.specs.Polynomial.{someBelow}
+use Rattle.matrix.specs.Answers.{someWordTooLarge}
+use Rattle.field.proofs.Irreducibility.{some-there}
+use Rattle.matrix.proofs.Judging.{some-next}
 use borrow.Author.Needs.{needs}
 use Rattle.matrix.proofs.call.word_too_large.Statement.{statement}
 use Rattle.matrix.proofs.call.word_too_large.Tie as tie
@@ -17,13 +19,13 @@ abbrev test : ℕ → List ℕ → ℕ → Bool
 test p row j = isTooLarge p (getD row j 0)
 
 abbrev Inv-loop : tie.InvT-loop
-Inv-loop p n row j₀ j = (j ≤ n) × (someOf j (test p row) ≡ false)
+Inv-loop p n row j₀ j = (j ≤ n) × (someBelow j (test p row) ≡ false)
 
 abbrev μ-loop : tie.MeasureT-loop
 μ-loop p n row j₀ j = n - j
 
 loop-holds : tie.Need-loop-holds Inv-loop μ-loop
-unfolding someOf
+unfolding someBelow
 loop-holds c = (zero-le, refl)
 
 array-read-too-large : tie.Need-array-read-too-large Inv-loop μ-loop
@@ -39,7 +41,7 @@ returns : tie.Need-returns Inv-loop μ-loop
 unfolding someWordTooLarge
 returns c =
     let a = c .before .before .before .before .args in
-    sym (some-found (a .n) (test (a .p) (a .t2)) (c .before .before .before .loop .j) (c .before .before .loop-test .taken) (sym (c .before .too-large .ensures) ∙ c .if1 .taken))
+    sym (some-there (a .n) (test (a .p) (a .t2)) (c .before .before .before .loop .j) (c .before .before .loop-test .taken) (sym (c .before .too-large .ensures) ∙ c .if1 .taken))
 
 add-j : tie.Need-add-j Inv-loop μ-loop
 add-j c = search needs
