@@ -6,40 +6,29 @@ use Rattle.field.proofs.Calls.{below-range, above-range, over-outside, 
 use borrow.Author.Needs.{needs}
 use Rattle.field.proofs.checked_degree.Statement.{statement}
 use Rattle.field.proofs.checked_degree.Tie as tie
-use Rattle.field.proofs.checked_degree.Reads as reads
-use Rattle.field.proofs.checked_degree.Lts as lts
-use Rattle.field.proofs.degree.Reads as degree-reads
-use Rattle.field.proofs.irreducible.Reads as irreducible-reads
 
--- src/lib.rt:136:9
 returns : tie.Need-returns
 unfolding degreeAnswer
 returns c = over-outside (c .before .args .p) (accepted (degree (c .before .args .p))) (below-range (c .before .args .p) (c .if1 .taken))
 
--- src/lib.rt:139:9
 returns-2 : tie.Need-returns-2
 unfolding degreeAnswer
 returns-2 c =
     let p = c .before .before .args .p in
     over-outside p (accepted (degree p)) (above-range p (c .if2 .taken))
 
--- src/lib.rt:141:13
 cast-q : tie.Need-cast-q
 cast-q c = search needs
 
--- src/lib.rt:142:8
 irreducible-requires : tie.Need-irreducible-requires
 irreducible-requires c κs = search needs
 
--- src/lib.rt:143:24
 degree-requires : tie.Need-degree-requires
 degree-requires c κs = search needs
 
--- src/lib.rt:143:24
 cast-t9 : tie.Need-cast-t9
 cast-t9 c = search needs
 
--- src/lib.rt:132:1
 returns-3 : tie.Need-returns-3
 unfolding degreeAnswer
 returns-3 c =
@@ -47,7 +36,6 @@ returns-3 c =
     ap accepted (c .degree .ensures)
     ∙ sym (over-modulus p (accepted (degree p)) (record { low = c .before .before .before .before .if1 .left; high = c .before .before .before .if2 .left; irreducible = sym (c .before .before .irreducible .ensures) ∙ c .before .if3 .taken }))
 
--- src/lib.rt:132:1
 returns-4 : tie.Need-returns-4
 unfolding degreeAnswer
 returns-4 c =

@@ -8,20 +8,13 @@ use Rattle.field.proofs.Calls.{degree-accepted, degree-refused, over-mo
 use borrow.Author.Needs.{needs}
 use Rattle.field.proofs.checked_product.Statement.{statement}
 use Rattle.field.proofs.checked_product.Tie as tie
-use Rattle.field.proofs.checked_product.Reads as reads
-use Rattle.field.proofs.checked_product.Lts as lts
-use Rattle.field.proofs.checked_degree.Reads as checked-degree-reads
-use Rattle.field.proofs.product_over.Reads as product-over-reads
 
--- src/lib.rt:161:11
 checked-degree-requires : tie.Need-checked-degree-requires
 checked-degree-requires c κs = search needs
 
--- src/lib.rt:162:26
 enum-known-r : tie.Need-enum-known-r
 enum-known-r c = search needs
 
--- src/lib.rt:163:43
 enum-told : tie.Need-enum-told
 enum-told c = search needs
 
@@ -29,22 +22,18 @@ enum-told c = search needs
 modulus : (c : tie.After-enum-told) → Modulus (c .before .before .before .args .p)
 modulus c = degree-accepted (c .before .before .before .args .p) _ (ap answerOf (sym (c .enum-told .given .1)) ∙ c .before .before .checked-degree .ensures) .0
 
--- src/lib.rt:163:43
 cast-product-over : tie.Need-cast-product-over
 cast-product-over c = record { fits = lt-of-le-of-lt (modulus c .high) (lit< tt) }
 
--- src/lib.rt:163:30
 product-over-requires : tie.Need-product-over-requires
 product-over-requires c κs = modulus c
 
--- src/lib.rt:158:1
 returns : tie.Need-returns
 unfolding productAnswer
 returns c =
     degree-refused (c .before .before .before .before .args .p) (c .before .r .given .0 .0) _
     (ap answerOf (sym (c .before .r .given .1)) ∙ c .before .before .before .checked-degree .ensures)
 
--- src/lib.rt:158:1
 returns-2 : tie.Need-returns-2
 unfolding productAnswer
 returns-2 c = c .product-over .ensures ∙ sym (over-modulus (c .before .before .before .before .args .p) _ (modulus (c .before)))

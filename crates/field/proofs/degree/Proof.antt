@@ -8,8 +8,6 @@ use Rattle.field.proofs.Degrees.{degree-half, degree-small, degree-lt}
 use borrow.Author.Needs.{needs}
 use Rattle.field.proofs.degree.Statement.{statement}
 use Rattle.field.proofs.degree.Tie as tie
-use Rattle.field.proofs.degree.Reads as reads
-use Rattle.field.proofs.degree.Lts as lts
 
 abbrev Inv-loop : tie.InvT-loop
 Inv-loop p x₀ m₀ x m = (degree p ≡ m + degree x) × (m ≤ 15) × (x < 65536)
@@ -17,26 +15,21 @@ Inv-loop p x₀ m₀ x m = (degree p ≡ m + degree x) × (m ≤ 15) × (x < 655
 abbrev μ-loop : tie.MeasureT-loop
 μ-loop p x₀ m₀ x m = x
 
--- src/lib.rt:40:5
 loop-holds : tie.Need-loop-holds Inv-loop μ-loop
 loop-holds c = (sym (zero-add (degree (c .args .p))), omega arith, omega arith)
 
--- src/lib.rt:42:9
 add-m : tie.Need-add-m Inv-loop μ-loop
 add-m c = omega arith
 
--- src/lib.rt:40:5
 loop-less : tie.Need-loop-less Inv-loop μ-loop
 loop-less c = omega arith
 
--- src/lib.rt:40:5
 loop-again : tie.Need-loop-again Inv-loop μ-loop
 loop-again c =
     let half : degree (c .before .loop .x) ≡ suc (degree (c .before .loop .x / 2)) = degree-half (c .before .loop .x) (omega arith) in
     let most : degree (c .before .before .args .p) ≤ 15 = degree-lt (c .before .before .args .p) 15 (omega arith) in
     (omega arith, omega arith, omega arith)
 
--- src/lib.rt:35:1
 returns : tie.Need-returns Inv-loop μ-loop
 returns c = omega (arith, degree-small (c .before .loop .x) (omega arith))
 

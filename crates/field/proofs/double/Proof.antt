@@ -10,18 +10,13 @@ use Rattle.field.proofs.Field.{double-reduce}
 use borrow.Author.Needs.{needs}
 use Rattle.field.proofs.double.Statement.{statement}
 use Rattle.field.proofs.double.Tie as tie
-use Rattle.field.proofs.double.Reads as reads
-use Rattle.field.proofs.double.Lts as lts
-use Rattle.field.proofs.reduce.Reads as reduce-reads
 
 shifted : (x m : ℕ) → x < 2 ^ m → m ≤ 8 → x * 2 < 65536
 shifted x m h u = omega (arith, pow-mono {j = 8} u)
 
--- src/lib.rt:60:5
 reduce-requires : tie.Need-reduce-requires
 reduce-requires c κs = search needs
 
--- src/lib.rt:56:1
 returns : tie.Need-returns
 returns c =
     let x = c .before .args .x in

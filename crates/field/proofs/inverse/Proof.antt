@@ -13,9 +13,6 @@ use Rattle.field.proofs.Inverses.{inverse-is, inverse-beyond}
 use borrow.Author.Needs.{needs}
 use Rattle.field.proofs.inverse.Statement.{statement}
 use Rattle.field.proofs.inverse.Tie as tie
-use Rattle.field.proofs.inverse.Reads as reads
-use Rattle.field.proofs.inverse.Lts as lts
-use Rattle.field.proofs.product.Reads as product-reads
 
 abbrev Inv-loop : tie.InvT-loop
 Inv-loop p a b₀ b = (b < 2 ^ degree p) × ((k : ℕ) → k < b → product p a k ≡ 1 → ⊥)
@@ -23,11 +20,9 @@ Inv-loop p a b₀ b = (b < 2 ^ degree p) × ((k : ℕ) → k < b → product p a
 abbrev μ-loop : tie.MeasureT-loop
 μ-loop p a b₀ b = 2 ^ degree p - b
 
--- src/lib.rt:86:5
 loop-holds : tie.Need-loop-holds Inv-loop μ-loop
 loop-holds c = (pow-pos (degree (c .args .p)), below-none (λ k. product (c .args .p) (c .args .a) k ≡ 1 → ⊥))
 
--- src/lib.rt:86:11
 product-requires : tie.Need-product-requires Inv-loop μ-loop
 product-requires c κs = (c .before .pre .0, c .before .pre .2)
 
@@ -47,22 +42,18 @@ more c =
     (inverse-beyond p (poly .has) (irreducible-to p (pre .0 .irreducible)) (omega (arith, poly .least)) (c .before .before .before .args .a) (pre .1) (pre .2) b
     (subst (λ (n : ℕ). (k : ℕ) → k < n → product p (c .before .before .before .args .a) k ≡ 1 → ⊥) (add-one b) (none c)))
 
--- src/lib.rt:87:9
 add-b : tie.Need-add-b Inv-loop μ-loop
 add-b c =
     let p = c .before .before .before .args .p in
     let poly = polynomial p (c .before .before .before .pre .0) in
     record { fits = lt-of-lt-of-le (more c) (pow-mono {j = 8} (poly .most)) }
 
--- src/lib.rt:86:5
 loop-less : tie.Need-loop-less Inv-loop μ-loop
 loop-less c = omega arith
 
--- src/lib.rt:86:5
 loop-again : tie.Need-loop-again Inv-loop μ-loop
 loop-again c = (more c, none c)
 
--- src/lib.rt:81:1
 returns : tie.Need-returns Inv-loop μ-loop
 returns c =
     let p = c .before .before .before .args .p in

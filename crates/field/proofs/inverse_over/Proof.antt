@@ -11,38 +11,27 @@ use Rattle.field.proofs.Calls.{not-too-large, element-fits, refuse-take
 use borrow.Author.Needs.{needs}
 use Rattle.field.proofs.inverse_over.Statement.{statement}
 use Rattle.field.proofs.inverse_over.Tie as tie
-use Rattle.field.proofs.inverse_over.Reads as reads
-use Rattle.field.proofs.inverse_over.Lts as lts
-use Rattle.field.proofs.inverse.Reads as inverse-reads
-use Rattle.field.proofs.too_large.Reads as too-large-reads
 
--- src/lib.rt:194:8
 too-large-requires : tie.Need-too-large-requires
 too-large-requires c κs = search needs
 
--- src/lib.rt:195:9
 returns : tie.Need-returns
 returns c = refuse-taken 7 _ _ (sym (c .before .too-large .ensures) ∙ c .if1 .taken)
 
--- src/lib.rt:198:9
 returns-2 : tie.Need-returns-2
 returns-2 c =
     refuse-taken 8 _ _ (eq-eqb (c .before .before .before .args .a) 0 (c .if2 .taken))
     ∙ refuse-left 7 _ _ (sym (c .before .before .too-large .ensures) ∙ c .before .if1 .left)
 
--- src/lib.rt:200:31
 cast-inverse : tie.Need-cast-inverse
 cast-inverse c = record { fits = element-fits (c .before .before .before .args .p) (c .before .before .before .args .a) (c .before .before .before .pre) (sym (c .before .before .too-large .ensures) ∙ c .before .if1 .left) }
 
--- src/lib.rt:200:20
 inverse-requires : tie.Need-inverse-requires
 inverse-requires c κs = (c .before .before .before .pre, pos-of-ne-zero (c .if2 .left), not-too-large (c .before .before .before .args .p) (c .before .before .before .args .a) (sym (c .before .before .too-large .ensures) ∙ c .before .if1 .left))
 
--- src/lib.rt:200:20
 cast-t9 : tie.Need-cast-t9
 cast-t9 c = search needs
 
--- src/lib.rt:190:1
 returns-3 : tie.Need-returns-3
 returns-3 c =
     ap accepted (c .inverse .ensures)

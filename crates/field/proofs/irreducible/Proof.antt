@@ -12,8 +12,6 @@ use Rattle.field.proofs.Completeness.{table-sound, table-complete}
 use borrow.Author.Needs.{needs}
 use Rattle.field.proofs.irreducible.Statement.{statement}
 use Rattle.field.proofs.irreducible.Tie as tie
-use Rattle.field.proofs.irreducible.Reads as reads
-use Rattle.field.proofs.irreducible.Lts as lts
 
 abbrev Inv-loop : tie.InvT-loop
 Inv-loop p i₀ i = (i ≤ 69) × ((k : ℕ) → k < i → getD table k 0 ≡ p → ⊥)
@@ -21,39 +19,31 @@ Inv-loop p i₀ i = (i ≤ 69) × ((k : ℕ) → k < i → getD table k 0 ≡ p 
 abbrev μ-loop : tie.MeasureT-loop
 μ-loop p i₀ i = 69 - i
 
--- src/lib.rt:25:5
 loop-holds : tie.Need-loop-holds Inv-loop μ-loop
 loop-holds c = search needs
 
--- src/lib.rt:26:12
 mul-if1 : tie.Need-mul-if1 Inv-loop μ-loop
 mul-if1 c = search needs
 
--- src/lib.rt:26:12
 array-read-if1 : tie.Need-array-read-if1 Inv-loop μ-loop
 array-read-if1 c = search needs
 
--- src/lib.rt:27:13
 returns : tie.Need-returns Inv-loop μ-loop
 unfolding table
 returns c =
     let i = c .before .before .loop .i in
     sym (ap isIrreducible (sym (c .if1 .taken)) ∙ table-sound i (c .before .loop-test .taken))
 
--- src/lib.rt:29:9
 add-i : tie.Need-add-i Inv-loop μ-loop
 add-i c = search needs
 
--- src/lib.rt:25:5
 loop-less : tie.Need-loop-less Inv-loop μ-loop
 loop-less c = search needs
 
--- src/lib.rt:25:5
 loop-again : tie.Need-loop-again Inv-loop μ-loop
 unfolding table
 loop-again c = (search needs, below-more _ _ (c .before .before .loop .inv .1) (c .if1 .left))
 
--- src/lib.rt:20:1
 returns-2 : tie.Need-returns-2 Inv-loop μ-loop
 returns-2 c =
     let p = c .before .before .args .p in

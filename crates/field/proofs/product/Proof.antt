@@ -14,9 +14,6 @@ use Rattle.field.proofs.Field.{times-step, times-zero-r}
 use borrow.Author.Needs.{needs}
 use Rattle.field.proofs.product.Statement.{statement}
 use Rattle.field.proofs.product.Tie as tie
-use Rattle.field.proofs.product.Reads as reads
-use Rattle.field.proofs.product.Lts as lts
-use Rattle.field.proofs.double.Reads as double-reads
 
 abbrev Inv-loop : tie.InvT-loop
 Inv-loop p a b x₀ y₀ r₀ x y r = (x < 2 ^ degree p) × (r < 2 ^ degree p) × (r ⊕ product p x y ≡ product p a b)
@@ -30,25 +27,20 @@ selected y x k h =
     subst⁻¹ (λ (n : ℕ). n * x < 2 ^ k) (and-mask y 1)
     (at-digit (λ d. d * x < 2 ^ k) (subst⁻¹ (λ (n : ℕ). n < 2 ^ k) (zero-mul x) (pow-pos k)) (subst⁻¹ (λ (n : ℕ). n < 2 ^ k) (one-mul x) h) y)
 
--- src/lib.rt:71:5
 loop-holds : tie.Need-loop-holds Inv-loop μ-loop
 loop-holds c = (c .pre .1, pow-pos (degree (c .args .p)), sum-zero-l (product (c .args .p) (c .args .a) (c .args .b)))
 
--- src/lib.rt:72:14
 mul-r : tie.Need-mul-r Inv-loop μ-loop
 mul-r c =
     let poly = polynomial (c .before .before .args .p) (c .before .before .pre .0) in
     record { fits = selected (c .before .loop .y) (c .before .loop .x) 16 (omega (arith, pow-mono {j = 8} (poly .most))) }
 
--- src/lib.rt:73:9
 double-requires : tie.Need-double-requires Inv-loop μ-loop
 double-requires c κs = (c .before .before .pre .0, c .before .loop .inv .0)
 
--- src/lib.rt:71:5
 loop-less : tie.Need-loop-less Inv-loop μ-loop
 loop-less c = omega (arith, pos-of-ne-zero (c .before .loop-test .taken))
 
--- src/lib.rt:71:5
 loop-again : tie.Need-loop-again Inv-loop μ-loop
 unfolding _⊕_
 loop-again c =
@@ -67,13 +59,11 @@ loop-again c =
           ∙ inv .2,
     )
 
--- src/lib.rt:76:5
 cast-result : tie.Need-cast-result Inv-loop μ-loop
 cast-result c =
     let poly = polynomial (c .before .before .args .p) (c .before .before .pre .0) in
     record { fits = lt-of-lt-of-le (c .before .loop .inv .1) (pow-mono {j = 8} (poly .most)) }
 
--- src/lib.rt:64:1
 returns : tie.Need-returns Inv-loop μ-loop
 returns c =
     let p = c .before .before .args .p in

@@ -11,26 +11,18 @@ use Rattle.field.proofs.Calls.{not-too-large, element-fits, refuse-take
 use borrow.Author.Needs.{needs}
 use Rattle.field.proofs.product_over.Statement.{statement}
 use Rattle.field.proofs.product_over.Tie as tie
-use Rattle.field.proofs.product_over.Reads as reads
-use Rattle.field.proofs.product_over.Lts as lts
-use Rattle.field.proofs.product.Reads as product-reads
-use Rattle.field.proofs.too_large.Reads as too-large-reads
 
--- src/lib.rt:171:8
 too-large-requires : tie.Need-too-large-requires
 too-large-requires c κs = search needs
 
--- src/lib.rt:172:9
 returns : tie.Need-returns
 returns c =
     refuse-taken 7 _ _
     (ap (λ (b : Bool). b || isTooLarge (c .before .before .args .p) (c .before .before .args .b)) (sym (c .before .too-large .ensures) ∙ c .if1 .taken))
 
--- src/lib.rt:174:8
 too-large-requires-2 : tie.Need-too-large-requires-2
 too-large-requires-2 c κs = search needs
 
--- src/lib.rt:175:9
 returns-2 : tie.Need-returns-2
 returns-2 c =
     refuse-taken 7 _ _
@@ -47,19 +39,15 @@ second c = sym (c .before .too-large2 .ensures) ∙ c .if2 .left
 cast-product : tie.Need-cast-product
 cast-product c = record { fits = element-fits (c .before .before .before .before .args .p) (c .before .before .before .before .args .a) (c .before .before .before .before .pre) (first c) }
 
--- src/lib.rt:177:40
 cast-product-2 : tie.Need-cast-product-2
 cast-product-2 c = record { fits = element-fits (c .before .before .before .before .args .p) (c .before .before .before .before .args .b) (c .before .before .before .before .pre) (second c) }
 
--- src/lib.rt:177:20
 product-requires : tie.Need-product-requires
 product-requires c κs = (c .before .before .before .before .pre, not-too-large (c .before .before .before .before .args .p) (c .before .before .before .before .args .a) (first c))
 
--- src/lib.rt:177:20
 cast-t11 : tie.Need-cast-t11
 cast-t11 c = search needs
 
--- src/lib.rt:167:1
 returns-3 : tie.Need-returns-3
 returns-3 c = ap accepted (c .product .ensures) ∙ refuse-left 7 _ _ (ap₂ _||_ (first (c .before)) (second (c .before)))
 

@@ -5,15 +5,11 @@ use Rattle.field.specs.Polynomial.{_⊕_, reduce}
 use borrow.Author.Needs.{needs}
 use Rattle.field.proofs.reduce.Statement.{statement}
 use Rattle.field.proofs.reduce.Tie as tie
-use Rattle.field.proofs.reduce.Reads as reads
-use Rattle.field.proofs.reduce.Lts as lts
 
--- src/lib.rt:48:1
 returns : tie.Need-returns
 unfolding reduce _⊕_
 returns c = sym (min-eq-right (le-of-lt (c .if1 .taken)))
 
--- src/lib.rt:48:1
 returns-2 : tie.Need-returns-2
 unfolding reduce _⊕_
 returns-2 c = sym (min-eq-left (c .if1 .left))

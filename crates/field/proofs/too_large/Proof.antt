@@ -11,23 +11,16 @@ use Rattle.field.proofs.Degrees.{polynomial}
 use borrow.Author.Needs.{needs}
 use Rattle.field.proofs.too_large.Statement.{statement}
 use Rattle.field.proofs.too_large.Tie as tie
-use Rattle.field.proofs.too_large.Reads as reads
-use Rattle.field.proofs.too_large.Lts as lts
-use Rattle.field.proofs.degree.Reads as degree-reads
 
--- src/lib.rt:153:10
 degree-requires : tie.Need-degree-requires
 degree-requires c κs = search needs
 
--- src/lib.rt:153:10
 cast-result : tie.Need-cast-result
 cast-result c = search needs
 
--- src/lib.rt:153:5
 shl-result : tie.Need-shl-result
 shl-result c = omega (arith, c .degree .ensures, polynomial (c .before .args .p) (c .before .pre) .most)
 
--- src/lib.rt:149:1
 returns : tie.Need-returns
 unfolding isTooLarge
 returns c =

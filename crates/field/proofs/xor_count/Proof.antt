@@ -16,10 +16,6 @@ use Rattle.field.proofs.Inverses.{columns-ones, columns-most, count-pos
 use borrow.Author.Needs.{needs}
 use Rattle.field.proofs.xor_count.Statement.{statement}
 use Rattle.field.proofs.xor_count.Tie as tie
-use Rattle.field.proofs.xor_count.Reads as reads
-use Rattle.field.proofs.xor_count.Lts as lts
-use Rattle.field.proofs.degree.Reads as degree-reads
-use Rattle.field.proofs.double.Reads as double-reads
 
 abbrev Inv-loop : tie.InvT-loop
 Inv-loop p a m column₀ ones₀ j₀ column ones j = (j ≤ m) × (m ≤ 8) × (column ≡ product p a (2 ^ j)) × (ones ≡ onesInColumns p a j)
@@ -27,16 +23,13 @@ Inv-loop p a m column₀ ones₀ j₀ column ones j = (j ≤ m) × (m ≤ 8) × 
 abbrev μ-loop : tie.MeasureT-loop
 μ-loop p a m column₀ ones₀ j₀ column ones j = m - j
 
--- src/lib.rt:98:9
 returns : tie.Need-returns Inv-loop μ-loop
 unfolding xorCount
 returns c = ap (xorCount (c .before .args .p)) (sym (c .if1 .taken))
 
--- src/lib.rt:100:9
 degree-requires : tie.Need-degree-requires Inv-loop μ-loop
 degree-requires c κs = search needs
 
--- src/lib.rt:104:5
 loop-holds : tie.Need-loop-holds Inv-loop μ-loop
 loop-holds c =
     let p = c .before .before .args .p in
@@ -62,11 +55,9 @@ few c =
     let pre = c .before .before .before .before .pre in
     ones-le 8 (c .before .loop .column) (lt-of-lt-of-le (inside c) (pow-mono {j = 8} (polynomial p (pre .0) .most)))
 
--- src/lib.rt:105:17
 cast-ones : tie.Need-cast-ones Inv-loop μ-loop
 cast-ones c = record { fits = lt-of-le-of-lt (few c) (lit< tt) }
 
--- src/lib.rt:105:9
 add-ones : tie.Need-add-ones Inv-loop μ-loop
 add-ones c =
     let p = c .before .before .before .before .args .p in
@@ -77,19 +68,15 @@ add-ones c =
     let same = c .before .loop .inv .3 in
     record { fits = omega (arith, few c) }
 
--- src/lib.rt:106:9
 double-requires : tie.Need-double-requires Inv-loop μ-loop
 double-requires c κs = (c .before .before .before .before .pre .0, inside c)
 
--- src/lib.rt:107:9
 add-j : tie.Need-add-j Inv-loop μ-loop
 add-j c = search needs
 
--- src/lib.rt:104:5
 loop-less : tie.Need-loop-less Inv-loop μ-loop
 loop-less c = search needs
 
--- src/lib.rt:104:5
 loop-again : tie.Need-loop-again Inv-loop μ-loop
 loop-again c =
     let p = c .before .before .before .before .before .args .p in
@@ -116,7 +103,6 @@ all c =
     c .before .loop .inv .3
     ∙ ap (onesInColumns (c .before .before .before .before .args .p) (c .before .before .before .before .args .a)) (last ∙ c .before .before .degree .ensures)
 
--- src/lib.rt:109:5
 sub-result : tie.Need-sub-result Inv-loop μ-loop
 sub-result c =
     let p = c .before .before .before .before .args .p in
@@ -127,7 +113,6 @@ sub-result c =
     (columns-ones p (degree p) (poly .has) (irreducible-to p (pre .0 .irreducible)) (omega (arith, poly .least)) a (degree p)
     (pos-of-ne-zero (c .before .before .before .if1 .left)) (pre .1) (le-refl (degree p)))
 
--- src/lib.rt:93:1
 returns-2 : tie.Need-returns-2 Inv-loop μ-loop
 returns-2 c =
     ap₂ (λ (x y : ℕ). x - y) (all c) (c .before .before .degree .ensures)

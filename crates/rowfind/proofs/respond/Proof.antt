@@ -4,30 +4,22 @@ use Rattle.answer.proofs.Shown.{shown-answer, shown-refusal}
 use borrow.Author.Needs.{needs}
 use Rattle.rowfind.proofs.respond.Statement.{statement}
 use Rattle.rowfind.proofs.respond.Tie as tie
-use Rattle.rowfind.proofs.respond.Reads as reads
-use Rattle.rowfind.proofs.respond.Lts as lts
-use Rattle.answer.proofs.answer.Reads as answer-reads
 
--- src/main.rt:37:9
 answer-requires : tie.Need-answer-requires
 answer-requires c κs = search needs
 
--- src/main.rt:33:1
 same-length : tie.Need-same-length
 same-length c = search needs
 
--- src/main.rt:33:1
 returns : tie.Need-returns
 returns c =
     let called = c .before .before .before .before in
     let start = called .before .before .before .before in
     shown-answer (called .answer .ensures) (start .pre) (c .if1 .taken)
 
--- src/main.rt:33:1
 same-length-2 : tie.Need-same-length-2
 same-length-2 c = search needs
 
--- src/main.rt:33:1
 returns-2 : tie.Need-returns-2
 returns-2 c =
     let called = c .before .before .before .before in

@@ -2,14 +2,10 @@
 use Rattle.search.proofs.Refusals.{says-found, says-none}
 use Rattle.search.proofs.found.Statement.{statement}
 use Rattle.search.proofs.found.Tie as tie
-use Rattle.search.proofs.found.Reads as reads
-use Rattle.search.proofs.found.Lts as lts
 
--- src/lib.rt:87:1
 returns : tie.Need-returns
 returns c = says-found (c .before .before .args .best) (c .if1 .taken)
 
--- src/lib.rt:87:1
 returns-2 : tie.Need-returns-2
 returns-2 c = says-none (c .before .before .args .best) (c .if1 .left) (c .before .before .pre (c .if1 .left))
 

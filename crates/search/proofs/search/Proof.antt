@@ -9,25 +9,16 @@ use Rattle.search.proofs.Refusals.{search-refused, search-modulus}
 use borrow.Author.Needs.{needs}
 use Rattle.search.proofs.search.Statement.{statement}
 use Rattle.search.proofs.search.Tie as tie
-use Rattle.search.proofs.search.Reads as reads
-use Rattle.search.proofs.search.Lts as lts
-use Rattle.field.proofs.checked_degree.Reads as checked-degree-reads
-use Rattle.search.proofs.refused.Reads as refused-reads
-use Rattle.search.proofs.search_over.Reads as search-over-reads
 
--- src/lib.rt:51:11
 checked-degree-requires : tie.Need-checked-degree-requires
 checked-degree-requires c κs = search needs
 
--- src/lib.rt:52:33
 enum-known-r : tie.Need-enum-known-r
 enum-known-r c = search needs
 
--- src/lib.rt:52:39
 refused-requires : tie.Need-refused-requires
 refused-requires c κs = search needs
 
--- src/lib.rt:53:49
 enum-told : tie.Need-enum-told
 enum-told c = search needs
 
@@ -35,15 +26,12 @@ enum-told c = search needs
 modulus : (c : tie.After-enum-told) → Modulus (c .before .before .before .before .args .p)
 modulus c = degree-accepted (c .before .before .before .before .args .p) _ (ap answerOf (sym (c .enum-told .given .1)) ∙ c .before .before .checked-degree .ensures) .0
 
--- src/lib.rt:53:49
 cast-search-over : tie.Need-cast-search-over
 cast-search-over c = record { fits = lt-of-le-of-lt (modulus c .high) (lit< tt) }
 
--- src/lib.rt:53:37
 search-over-requires : tie.Need-search-over-requires
 search-over-requires c κs = modulus c
 
--- src/lib.rt:48:1
 returns : tie.Need-returns
 returns c =
     let s = c .before .before .before .before .before .before in
@@ -51,7 +39,6 @@ returns c =
     ∙ search-refused (s .args .p) (s .args .n) (s .args .candidates .now) (c .before .before .r .given .0 .0)
     (ap answerOf (sym (c .before .before .r .given .1)) ∙ c .before .before .before .before .checked-degree .ensures)
 
--- src/lib.rt:48:1
 returns-2 : tie.Need-returns-2
 returns-2 c =
     let s = c .before .before .before .before .before in

@@ -5,77 +5,53 @@ use Rattle.search.proofs.Refusals.{order-of, refuse-taken, refuse-left,
 use borrow.Author.Needs.{needs}
 use Rattle.search.proofs.search_over.Statement.{statement}
 use Rattle.search.proofs.search_over.Tie as tie
-use Rattle.search.proofs.search_over.Reads as reads
-use Rattle.search.proofs.search_over.Lts as lts
-use Rattle.search.proofs.found.Reads as found-reads
-use Rattle.search.proofs.front.is_wrong_count.Reads as is-wrong-count-reads
-use Rattle.search.proofs.front.is_wrong_order.Reads as is-wrong-order-reads
-use Rattle.search.proofs.front.some_bad.Reads as some-bad-reads
-use Rattle.search.proofs.front.some_too_large.Reads as some-too-large-reads
-use Rattle.search.proofs.lightest_row.Reads as lightest-row-reads
-use Rattle.search.proofs.refused.Reads as refused-reads
 
--- src/lib.rt:71:8
 is-wrong-order-requires : tie.Need-is-wrong-order-requires
 is-wrong-order-requires c κs = search needs
 
--- src/lib.rt:72:9
 refused-requires : tie.Need-refused-requires
 refused-requires c κs = search needs
 
--- src/lib.rt:72:9
 returns : tie.Need-returns
 returns c = c .refused .ensures ∙ refuse-taken 5 _ _ (sym (c .before .before .is-wrong-order .ensures) ∙ c .before .if1 .taken)
 
--- src/lib.rt:74:8
 is-wrong-count-requires : tie.Need-is-wrong-count-requires
 is-wrong-count-requires c κs = search needs
 
--- src/lib.rt:75:9
 refused-requires-2 : tie.Need-refused-requires-2
 refused-requires-2 c κs = search needs
 
--- src/lib.rt:75:9
 returns-2 : tie.Need-returns-2
 returns-2 c = c .refused2 .ensures ∙ refuse-taken 6 _ _ (sym (c .before .before .is-wrong-count .ensures) ∙ c .before .if2 .taken) ∙ sym (refuse-left 5 _ _ (sym (c .before .before .before .before .is-wrong-order .ensures) ∙ c .before .before .before .if1 .left))
 
--- src/lib.rt:77:8
 some-too-large-requires : tie.Need-some-too-large-requires
 some-too-large-requires c κs = search needs
 
--- src/lib.rt:78:9
 refused-requires-3 : tie.Need-refused-requires-3
 refused-requires-3 c κs = search needs
 
--- src/lib.rt:78:9
 returns-3 : tie.Need-returns-3
 returns-3 c = c .refused3 .ensures ∙ refuse-taken 7 _ _ (sym (c .before .before .some-too-large .ensures) ∙ c .before .if3 .taken) ∙ sym (refuse-left 5 _ _ (sym (c .before .before .before .before .before .before .is-wrong-order .ensures) ∙ c .before .before .before .before .before .if1 .left) ∙ refuse-left 6 _ _ (sym (c .before .before .before .before .is-wrong-count .ensures) ∙ c .before .before .before .if2 .left))
 
--- src/lib.rt:80:8
 some-bad-requires : tie.Need-some-bad-requires
 some-bad-requires c κs = search needs
 
--- src/lib.rt:81:9
 refused-requires-4 : tie.Need-refused-requires-4
 refused-requires-4 c κs = search needs
 
--- src/lib.rt:81:9
 returns-4 : tie.Need-returns-4
 returns-4 c = c .refused4 .ensures ∙ refuse-taken 8 _ _ (sym (c .before .before .some-bad .ensures) ∙ c .before .if4 .taken) ∙ sym (refuse-left 5 _ _ (sym (c .before .before .before .before .before .before .before .before .is-wrong-order .ensures) ∙ c .before .before .before .before .before .before .before .if1 .left) ∙ refuse-left 6 _ _ (sym (c .before .before .before .before .before .before .is-wrong-count .ensures) ∙ c .before .before .before .before .before .if2 .left) ∙ refuse-left 7 _ _ (sym (c .before .before .before .before .some-too-large .ensures) ∙ c .before .before .before .if3 .left))
 
--- src/lib.rt:83:11
 lightest-row-requires : tie.Need-lightest-row-requires
 lightest-row-requires c κs =
     let s = c .before .before .before .before .before .before .before .before .before in
     (s .pre, order-of (s .args .n) (sym (c .before .before .before .before .before .before .before .is-wrong-order .ensures) ∙ c .before .before .before .before .before .before .if1 .left), (sym (c .before .before .before .some-too-large .ensures) ∙ c .before .before .if3 .left))
 
--- src/lib.rt:83:5
 found-requires : tie.Need-found-requires
 found-requires c κs =
     let s = c .before .before .before .before .before .before .before .before .before .before in
     says-empty (s .args .p) (s .args .n) (c .lightest-row .result) (lightestRow (s .args .p) (s .args .n) (s .args .candidates .now)) (c .lightest-row .ensures)
 
--- src/lib.rt:67:1
 returns-5 : tie.Need-returns-5
 returns-5 c =
     c .found .ensures

@@ -56,22 +56,18 @@ determinant-given t = (line-below t, line.Post)
 abbrev line-given : ℕ → line-lts.Claims
 line-given t = (without-reads.Asked, without-reads.Learnt, determinant-below t, determinant.Post, product-reads.Asked, product-reads.Learnt)
 
--- src/block.rt:45:9
 determinant-returns : (t : ℕ) → determinant-lts.Need-returns (determinant-given t) (determinant-at t) determinant.Post
 determinant-returns t c =
     let p = c .before .args .p in
     let f = entry (c .before .args .t2) in
     det-none p f ∙ ap (λ (n : ℕ). det (numbers p) n f) (sym (c .if1 .taken))
 
--- src/block.rt:48:16
 determinant-index-1-result : (t : ℕ) → determinant-lts.Need-index-1-result (determinant-given t) (determinant-at t) determinant.Post
 determinant-index-1-result t c = search needs
 
--- src/block.rt:48:16
 determinant-index-2-result : (t : ℕ) → determinant-lts.Need-index-2-result (determinant-given t) (determinant-at t) determinant.Post
 determinant-index-2-result t c = search needs
 
--- src/block.rt:48:9
 determinant-returns-2 : (t : ℕ) → determinant-lts.Need-returns-2 (determinant-given t) (determinant-at t) determinant.Post
 unfolding InField
 determinant-returns-2 t c =
@@ -81,7 +77,6 @@ determinant-returns-2 t c =
     let one = c .before .if2 .taken in
     det-single p f (pre .0) (pre .2 0 0 (omega arith) (omega arith)) ∙ ap (λ (n : ℕ). det (numbers p) n f) (sym one)
 
--- src/block.rt:50:5
 determinant-first-line-sum-requires : (t : ℕ) → determinant-lts.Need-first-line-sum-requires (determinant-given t) (determinant-at t) determinant.Post
 determinant-first-line-sum-requires t c κs =
     let n = c .before .before .args .n in
@@ -90,7 +85,6 @@ determinant-first-line-sum-requires t c κs =
     let less : n + n < t = omega arith in
     (less, (pre .0, pos-of-ne-zero (c .before .if1 .left), pre .1, pre .2))
 
--- src/block.rt:40:1
 determinant-returns-3 : (t : ℕ) → determinant-lts.Need-returns-3 (determinant-given t) (determinant-at t) determinant.Post
 determinant-returns-3 t c = c .first-line-sum .ensures
 
@@ -100,19 +94,15 @@ line-Inv-loop p n block r₀ j₀ r j = (j ≤ n) × (r ≡ firstLine p (n - 1) 
 abbrev line-μ-loop : line-lts.MeasureT-loop
 line-μ-loop p n block r₀ j₀ r j = n - j
 
--- src/block.rt:60:5
 line-loop-holds : (t : ℕ) → line-lts.Need-loop-holds (line-given t) (line-at t) line.Post line-Inv-loop line-μ-loop
 line-loop-holds t c = (zero-le, first-line-none (c .args .p) (c .args .n - 1) (entry (c .args .t2)))
 
--- src/block.rt:61:36
 line-without-requires : (t : ℕ) → line-lts.Need-without-requires (line-given t) (line-at t) line.Post line-Inv-loop line-μ-loop
 line-without-requires t c κs = search needs
 
--- src/block.rt:61:58
 line-sub-determinant : (t : ℕ) → line-lts.Need-sub-determinant (line-given t) (line-at t) line.Post line-Inv-loop line-μ-loop
 line-sub-determinant t c = search needs
 
--- src/block.rt:61:13
 line-determinant-requires : (t : ℕ) → line-lts.Need-determinant-requires (line-given t) (line-at t) line.Post line-Inv-loop line-μ-loop
 line-determinant-requires t c κs =
     let p = c .before .before .before .args .p in
@@ -124,15 +114,12 @@ line-determinant-requires t c κs =
     let less : n - 1 + (n - 1) + 1 < t = omega (arith, pre .1) in
     (less, (pre .0, omega (arith, pre .2), minor-in-field p n j block (c .without .result) (pre .1) (pre .2) (pre .3) (c .without .ensures)))
 
--- src/block.rt:62:32
 line-index-1-product : (t : ℕ) → line-lts.Need-index-1-product (line-given t) (line-at t) line.Post line-Inv-loop line-μ-loop
 line-index-1-product t c = search needs
 
--- src/block.rt:62:32
 line-index-2-product : (t : ℕ) → line-lts.Need-index-2-product (line-given t) (line-at t) line.Post line-Inv-loop line-μ-loop
 line-index-2-product t c = search needs
 
--- src/block.rt:62:14
 line-product-requires : (t : ℕ) → line-lts.Need-product-requires (line-given t) (line-at t) line.Post line-Inv-loop line-μ-loop
 unfolding InField
 line-product-requires t c κs =
@@ -140,15 +127,12 @@ line-product-requires t c κs =
     let j = c .before .before .before .before .loop .j in
     (pre .0, pre .3 0 j (pre .1) (c .before .before .before .loop-test .taken))
 
--- src/block.rt:63:9
 line-add-j : (t : ℕ) → line-lts.Need-add-j (line-given t) (line-at t) line.Post line-Inv-loop line-μ-loop
 line-add-j t c = search needs
 
--- src/block.rt:60:5
 line-loop-less : (t : ℕ) → line-lts.Need-loop-less (line-given t) (line-at t) line.Post line-Inv-loop line-μ-loop
 line-loop-less t c = search needs
 
--- src/block.rt:60:5
 line-loop-again : (t : ℕ) → line-lts.Need-loop-again (line-given t) (line-at t) line.Post line-Inv-loop line-μ-loop
 line-loop-again t c =
     let p = c .before .before .before .before .before .before .args .p in
@@ -165,7 +149,6 @@ line-loop-again t c =
           (λ i k l m. left .ensures i k (omega arith) (omega (arith, pre .2))) (c .product .ensures),
     )
 
--- src/block.rt:54:1
 line-returns : (t : ℕ) → line-lts.Need-returns (line-given t) (line-at t) line.Post line-Inv-loop line-μ-loop
 line-returns t c =
     let p = c .before .before .args .p in

@@ -11,9 +11,6 @@ use Rattle.matrix.proofs.Minors.{stored-more}
 use borrow.Author.Needs.{needs}
 use Rattle.matrix.proofs.block.chosen_columns.Statement.{statement}
 use Rattle.matrix.proofs.block.chosen_columns.Tie as tie
-use Rattle.matrix.proofs.block.chosen_columns.Reads as reads
-use Rattle.matrix.proofs.block.chosen_columns.Lts as lts
-use Rattle.matrix.proofs.block.chosen_line.Reads as chosen-line-reads
 
 -- l has the chosen columns of line a
 abbrev LineOf : List (List ℕ) → ℕ → ℕ → List ℕ → Type 0
@@ -25,39 +22,30 @@ Inv-loop n columns m r₀ i₀ r i = (i ≤ n) × (length r ≡ 8) × ((a : ℕ)
 abbrev μ-loop : tie.MeasureT-loop
 μ-loop n columns m r₀ i₀ r i = n - i
 
--- src/block.rt:113:5
 loop-holds : tie.Need-loop-holds Inv-loop μ-loop
 loop-holds c = (zero-le, search needs, below-none (λ a. _))
 
--- src/block.rt:114:32
 mul-chosen-line : tie.Need-mul-chosen-line Inv-loop μ-loop
 mul-chosen-line c = search needs
 
--- src/block.rt:114:32
 array-copy-out-chosen-line : tie.Need-array-copy-out-chosen-line Inv-loop μ-loop
 array-copy-out-chosen-line c = search needs
 
--- src/block.rt:114:13
 chosen-line-requires : tie.Need-chosen-line-requires Inv-loop μ-loop
 chosen-line-requires c κs = search needs
 
--- src/block.rt:115:9
 mul-r : tie.Need-mul-r Inv-loop μ-loop
 mul-r c = search needs
 
--- src/block.rt:115:9
 array-set-from-r : tie.Need-array-set-from-r Inv-loop μ-loop
 array-set-from-r c = search needs
 
--- src/block.rt:116:9
 add-i : tie.Need-add-i Inv-loop μ-loop
 add-i c = search needs
 
--- src/block.rt:113:5
 loop-less : tie.Need-loop-less Inv-loop μ-loop
 loop-less c = search needs
 
--- src/block.rt:113:5
 loop-again : tie.Need-loop-again Inv-loop μ-loop
 loop-again c =
     let r = c .before .before .before .loop .r in
@@ -70,7 +58,6 @@ loop-again c =
           (c .chosen-line .ensures),
     )
 
--- src/block.rt:107:1
 returns : tie.Need-returns Inv-loop μ-loop
 returns c = λ i j l h. c .before .loop .inv .2 i (omega arith) j h
 

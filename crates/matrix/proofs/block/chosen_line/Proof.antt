@@ -5,8 +5,6 @@ use Rattle.matrix.proofs.Selections.{Walk, walk-begins, walk-inside, wa
 use borrow.Author.Needs.{needs}
 use Rattle.matrix.proofs.block.chosen_line.Statement.{statement}
 use Rattle.matrix.proofs.block.chosen_line.Tie as tie
-use Rattle.matrix.proofs.block.chosen_line.Reads as reads
-use Rattle.matrix.proofs.block.chosen_line.Lts as lts
 
 abbrev Inv-loop : tie.InvT-loop
 Inv-loop columns line r₀ rest₀ i₀ k₀ r rest i k = Walk line 0 columns r rest i k
@@ -14,7 +12,6 @@ Inv-loop columns line r₀ rest₀ i₀ k₀ r rest i k = Walk line 0 columns r 
 abbrev μ-loop : tie.MeasureT-loop
 μ-loop columns line r₀ rest₀ i₀ k₀ r rest i k = rest
 
--- src/block.rt:78:5
 loop-holds : tie.Need-loop-holds Inv-loop μ-loop
 loop-holds c = walk-begins (c .args .t1) 0 (c .args .columns) (c .args .t1) (c .pre) (search needs)
 
@@ -24,37 +21,29 @@ inside c =
     walk-inside (c .before .before .args .t1) 0 (c .before .before .args .columns) (c .before .loop .r) (c .before .loop .rest) (c .before .loop .i) (c .before .loop .k) (c .before .loop .inv)
     (c .loop-test .taken)
 
--- src/block.rt:79:16
 array-read-r : tie.Need-array-read-r Inv-loop μ-loop
 array-read-r c = omega (arith, inside c)
 
--- src/block.rt:79:9
 array-write-r : tie.Need-array-write-r Inv-loop μ-loop
 array-write-r c = omega (arith, inside c)
 
--- src/block.rt:80:14
 cast-k : tie.Need-cast-k Inv-loop μ-loop
 cast-k c = omega (arith, inside c)
 
--- src/block.rt:80:9
 add-k : tie.Need-add-k Inv-loop μ-loop
 add-k c = omega (arith, inside c)
 
--- src/block.rt:82:9
 add-i : tie.Need-add-i Inv-loop μ-loop
 add-i c = search needs
 
--- src/block.rt:78:5
 loop-less : tie.Need-loop-less Inv-loop μ-loop
 loop-less c = omega (arith, pos-of-ne-zero (c .loop-test .taken))
 
--- src/block.rt:78:5
 loop-again : tie.Need-loop-again Inv-loop μ-loop
 loop-again c =
     let now = c .before .loop in
     walk-goes-on (c .before .before .args .t1) 0 (c .before .before .args .columns) (now .r) (now .rest) (now .i) (now .k) (now .inv) (c .loop-test .taken)
 
--- src/block.rt:70:1
 returns : tie.Need-returns Inv-loop μ-loop
 returns c =
     let now = c .before .loop in

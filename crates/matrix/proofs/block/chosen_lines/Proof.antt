@@ -6,8 +6,6 @@ use Rattle.matrix.proofs.Selections.{Walk, walk-begins, walk-inside, wa
 use borrow.Author.Needs.{needs}
 use Rattle.matrix.proofs.block.chosen_lines.Statement.{statement}
 use Rattle.matrix.proofs.block.chosen_lines.Tie as tie
-use Rattle.matrix.proofs.block.chosen_lines.Reads as reads
-use Rattle.matrix.proofs.block.chosen_lines.Lts as lts
 
 abbrev Inv-loop : tie.InvT-loop
 Inv-loop lines m r₀ rest₀ i₀ k₀ r rest i k = Walk m [] lines r rest i k
@@ -15,7 +13,6 @@ Inv-loop lines m r₀ rest₀ i₀ k₀ r rest i k = Walk m [] lines r rest i k
 abbrev μ-loop : tie.MeasureT-loop
 μ-loop lines m r₀ rest₀ i₀ k₀ r rest i k = rest
 
--- src/block.rt:96:5
 loop-holds : tie.Need-loop-holds Inv-loop μ-loop
 loop-holds c = walk-begins (c .args .t1) [] (c .args .lines) (c .args .t1) (c .pre) (search needs)
 
@@ -25,45 +22,35 @@ inside c =
     walk-inside (c .before .before .args .t1) [] (c .before .before .args .lines) (c .before .loop .r) (c .before .loop .rest) (c .before .loop .i) (c .before .loop .k) (c .before .loop .inv)
     (c .loop-test .taken)
 
--- src/block.rt:97:20
 mul-line : tie.Need-mul-line Inv-loop μ-loop
 mul-line c = omega (arith, inside c)
 
--- src/block.rt:97:20
 array-copy-out-line : tie.Need-array-copy-out-line Inv-loop μ-loop
 array-copy-out-line c = omega (arith, inside c)
 
--- src/block.rt:98:9
 mul-r : tie.Need-mul-r Inv-loop μ-loop
 mul-r c = omega (arith, inside (c .before))
 
--- src/block.rt:98:9
 array-set-from-r : tie.Need-array-set-from-r Inv-loop μ-loop
 array-set-from-r c = omega (arith, inside (c .before))
 
--- src/block.rt:99:14
 cast-k : tie.Need-cast-k Inv-loop μ-loop
 cast-k c = omega (arith, inside (c .before))
 
--- src/block.rt:99:9
 add-k : tie.Need-add-k Inv-loop μ-loop
 add-k c = omega (arith, inside (c .before))
 
--- src/block.rt:101:9
 add-i : tie.Need-add-i Inv-loop μ-loop
 add-i c = search needs
 
--- src/block.rt:96:5
 loop-less : tie.Need-loop-less Inv-loop μ-loop
 loop-less c = omega (arith, pos-of-ne-zero (c .before .loop-test .taken))
 
--- src/block.rt:96:5
 loop-again : tie.Need-loop-again Inv-loop μ-loop
 loop-again c =
     let now = c .before .before .loop in
     walk-goes-on (c .before .before .before .args .t1) [] (c .before .before .before .args .lines) (now .r) (now .rest) (now .i) (now .k) (now .inv) (c .before .loop-test .taken)
 
--- src/block.rt:88:1
 returns : tie.Need-returns Inv-loop μ-loop
 returns c =
     let now = c .before .loop in

@@ -7,8 +7,6 @@ use Rattle.matrix.proofs.Regularity.{Skipped, skipped-none, skipped-mor
 use borrow.Author.Needs.{needs}
 use Rattle.matrix.proofs.block.next_choice.Statement.{statement}
 use Rattle.matrix.proofs.block.next_choice.Tie as tie
-use Rattle.matrix.proofs.block.next_choice.Reads as reads
-use Rattle.matrix.proofs.block.next_choice.Lts as lts
 
 abbrev Inv-loop : tie.InvT-loop
 Inv-loop from step end k r₀ r = Skipped from step end k r
@@ -16,36 +14,29 @@ Inv-loop from step end k r₀ r = Skipped from step end k r
 abbrev μ-loop : tie.MeasureT-loop
 μ-loop from step end k r₀ r = end - r
 
--- src/block.rt:138:5
 loop-holds : tie.Need-loop-holds Inv-loop μ-loop
 loop-holds c = skipped-none (c .args .from) (c .args .step) (c .args .end) (c .args .k)
 
--- src/block.rt:139:12
 cast-if1 : tie.Need-cast-if1 Inv-loop μ-loop
 cast-if1 c = omega (arith, ones-le 8 (c .before .loop .r) (lt-of-lt-of-le (c .loop-test .taken) (c .before .before .pre .2)))
 
--- src/block.rt:140:13
 returns : tie.Need-returns Inv-loop μ-loop
 returns c =
     let a = c .before .before .before .args in
     next-choice (a .from) (a .step) (a .end) (a .k) (c .before .before .loop .r) (c .before .before .loop .inv) (λ _. c .if1 .taken)
 
--- src/block.rt:142:9
 add-r : tie.Need-add-r Inv-loop μ-loop
 add-r c = search needs
 
--- src/block.rt:138:5
 loop-less : tie.Need-loop-less Inv-loop μ-loop
 loop-less c = omega arith
 
--- src/block.rt:138:5
 loop-again : tie.Need-loop-again Inv-loop μ-loop
 loop-again c =
     let a = c .before .before .before .args in
     let pre = c .before .before .before .pre in
     skipped-more (a .from) (a .step) (a .end) (a .k) (c .before .before .loop .r) (pre .0) (pre .1) (c .before .before .loop .inv) (c .before .loop-test .taken) (c .if1 .left)
 
--- src/block.rt:133:1
 returns-2 : tie.Need-returns-2 Inv-loop μ-loop
 returns-2 c =
     let a = c .before .before .args in

@@ -15,12 +15,6 @@ use Rattle.matrix.proofs.Regularity.{Passed, passed-none, passed-more, 
 use Rattle.matrix.proofs.Regularity.{lines-others, lines-passed, all-passed, one-singular, square-in-field, square-det, endOf, end-is, end-most, end-choice}
 use Rattle.matrix.proofs.block.regular_of_size.Statement.{statement}
 use Rattle.matrix.proofs.block.regular_of_size.Tie as tie
-use Rattle.matrix.proofs.block.regular_of_size.Reads as reads
-use Rattle.matrix.proofs.block.regular_of_size.Lts as lts
-use Rattle.matrix.proofs.block.chosen_columns.Reads as chosen-columns-reads
-use Rattle.matrix.proofs.block.chosen_lines.Reads as chosen-lines-reads
-use Rattle.matrix.proofs.block.determinant.Reads as determinant-reads
-use Rattle.matrix.proofs.block.next_choice.Reads as next-choice-reads
 
 abbrev Inv-loop : tie.InvT-loop
 Inv-loop p m n step k end lines block columns₀ columns = Passed step (2 ^ n) k (Regular p n k (entry m) lines) columns
@@ -45,19 +39,15 @@ module _ (n : ℕ) (h : n ≤ 8) where
   past : (x : ℕ) → endOf n ≤ x → 2 ^ n ≤ x
   past x l = omega (arith, end-is n h)
 
--- src/block.rt:152:25
 cast-end : tie.Need-cast-end Inv-loop μ-loop Inv-choices μ-choices
 cast-end c = omega arith
 
--- src/block.rt:152:20
 shl-end : tie.Need-shl-end Inv-loop μ-loop Inv-choices μ-choices
 shl-end c = omega arith
 
--- src/block.rt:153:9
 next-choice-requires : tie.Need-next-choice-requires Inv-loop μ-loop Inv-choices μ-choices
 next-choice-requires c κs = (le-refl 1, omega arith, most (c .args .n) (c .pre .1))
 
--- src/block.rt:154:5
 choices-holds : tie.Need-choices-holds Inv-loop μ-loop Inv-choices μ-choices
 choices-holds c =
     let a = c .before .args in
@@ -65,17 +55,14 @@ choices-holds c =
     passed-none 1 (2 ^ a .n) (a .k) (RegularLines (a .p) (a .n) (a .k) (entry (a .m)) (a .step)) (lines-others (a .p) (a .n) (a .k) (entry (a .m)) (a .step)) (c .next-choice .result) (pre .2)
     (end-choice (a .n) 1 1 (a .k) (c .next-choice .result) (pre .1) (c .next-choice .ensures))
 
--- src/block.rt:155:13
 chosen-lines-requires : tie.Need-chosen-lines-requires Inv-loop μ-loop Inv-choices μ-choices
 chosen-lines-requires c κs = lt-of-lt-of-le (c .choices-test .taken) (most (c .before .before .before .args .n) (c .before .before .before .pre .1))
 
--- src/block.rt:156:13
 next-choice-requires-2 : tie.Need-next-choice-requires-2 Inv-loop μ-loop Inv-choices μ-choices
 next-choice-requires-2 c κs =
     let pre = c .before .before .before .before .pre in
     (pre .4, pre .5, most (c .before .before .before .before .args .n) (pre .1))
 
--- src/block.rt:157:9
 loop-holds : tie.Need-loop-holds Inv-loop μ-loop Inv-choices μ-choices
 loop-holds c =
     let a = c .before .before .before .before .before .args in
@@ -102,13 +89,11 @@ both c =
     let hc = below n (pre .1) (columns .columns) (c .loop-test .taken) in
     record { lines-below = hl; columns-below = hc; lines-many = lines .inv .found hl; columns-many = columns .inv .found hc }
 
--- src/block.rt:158:31
 chosen-columns-requires : tie.Need-chosen-columns-requires Inv-loop μ-loop Inv-choices μ-choices
 chosen-columns-requires c κs =
     let pre = c .before .before .before .before .before .before .before .pre in
     (omega (arith, pre .1, pre .3), lt-of-lt-of-le (c .loop-test .taken) (most (c .before .before .before .before .before .before .before .args .n) (pre .1)))
 
--- src/block.rt:158:16
 determinant-requires : tie.Need-determinant-requires Inv-loop μ-loop Inv-choices μ-choices
 determinant-requires c κs =
     let a = c .before .before .before .before .before .before .before .before .args in
@@ -135,21 +120,17 @@ chosen-det c =
     square-det (a .p) (a .n) (a .k) (lines .lines) (columns .columns) (a .m) (c .before .before .before .before .before .chosen-lines .result) (c .before .chosen-columns .result) (pre .1) (b .lines-below) (b .columns-below) (b .lines-many) (b .columns-many)
     (c .before .before .before .before .before .chosen-lines .ensures) (c .before .chosen-columns .ensures) (c .determinant .result) (c .determinant .ensures)
 
--- src/block.rt:161:35
 add-next-choice : tie.Need-add-next-choice Inv-loop μ-loop Inv-choices μ-choices
 add-next-choice c = omega (arith, most (c .before .before .before .before .before .before .before .before .before .before .args .n) (c .before .before .before .before .before .before .before .before .before .before .pre .1), c .before .before .before .before .before .before .before .before .before .before .pre .5, c .before .before .before .loop-test .taken)
 
--- src/block.rt:161:13
 next-choice-requires-3 : tie.Need-next-choice-requires-3 Inv-loop μ-loop Inv-choices μ-choices
 next-choice-requires-3 c κs =
     let pre = c .before .before .before .before .before .before .before .before .before .before .pre in
     (pre .4, pre .5, most (c .before .before .before .before .before .before .before .before .before .before .args .n) (pre .1))
 
--- src/block.rt:157:9
 loop-less : tie.Need-loop-less Inv-loop μ-loop Inv-choices μ-choices
 loop-less c = omega (arith, c .before .before .before .before .before .before .before .before .before .before .before .pre .4, c .before .before .before .before .loop-test .taken, c .next-choice3 .ensures .begins)
 
--- src/block.rt:157:9
 loop-again : tie.Need-loop-again Inv-loop μ-loop Inv-choices μ-choices
 loop-again c =
     let a = c .before .before .before .before .before .before .before .before .before .before .before .args in
@@ -162,19 +143,15 @@ loop-again c =
     (block-regular (a .p) (a .n) (a .k) (entry (a .m)) lines (columns .columns) d (chosen-det (c .before .before)) (c .before .if1 .left))
     (end-choice (a .n) (columns .columns + a .step) (a .step) (a .k) (c .next-choice3 .result) (pre .1) (c .next-choice3 .ensures))
 
--- src/block.rt:163:29
 add-next-choice-2 : tie.Need-add-next-choice-2 Inv-loop μ-loop Inv-choices μ-choices
 add-next-choice-2 c = omega (arith, most (c .before .before .before .before .before .before .before .args .n) (c .before .before .before .before .before .before .before .pre .1), c .before .before .before .before .choices-test .taken)
 
--- src/block.rt:163:9
 next-choice-requires-4 : tie.Need-next-choice-requires-4 Inv-loop μ-loop Inv-choices μ-choices
 next-choice-requires-4 c κs = (le-refl 1, omega arith, most (c .before .before .before .before .before .before .before .args .n) (c .before .before .before .before .before .before .before .pre .1))
 
--- src/block.rt:154:5
 choices-less : tie.Need-choices-less Inv-loop μ-loop Inv-choices μ-choices
 choices-less c = omega (arith, c .before .before .before .before .before .choices-test .taken, c .next-choice4 .ensures .begins)
 
--- src/block.rt:154:5
 choices-again : tie.Need-choices-again Inv-loop μ-loop Inv-choices μ-choices
 choices-again c =
     let a = c .before .before .before .before .before .before .before .before .args in
@@ -198,7 +175,6 @@ found-singular c =
     one-singular (a .p) (a .n) (a .k) (entry (a .m)) (a .step) (lines .lines) (columns .columns) (b .lines-below) (b .columns-below) (columns .inv .aligned)
     (block-singular (a .p) (a .n) (a .k) (entry (a .m)) (lines .lines) (columns .columns) (c .before .determinant .result) (chosen-det (c .before)) (b .lines-below) (b .columns-below) (b .lines-many) (b .columns-many) (c .if1 .taken))
 
--- src/block.rt:148:1
 returns : tie.Need-returns Inv-loop μ-loop Inv-choices μ-choices
 returns c =
     let a = c .before .before .before .args in

@@ -14,9 +14,6 @@ use Rattle.matrix.proofs.Regularity.{every-true, every-false}
 use borrow.Author.Needs.{needs}
 use Rattle.matrix.proofs.block.regular_up_to.Statement.{statement}
 use Rattle.matrix.proofs.block.regular_up_to.Tie as tie
-use Rattle.matrix.proofs.block.regular_up_to.Reads as reads
-use Rattle.matrix.proofs.block.regular_up_to.Lts as lts
-use Rattle.matrix.proofs.block.regular_of_size.Reads as regular-of-size-reads
 
 -- the blocks of size k + 1 are regular
 abbrev isRegular : ℕ → List (List ℕ) → ℕ → ℕ → ℕ → Bool
@@ -28,15 +25,12 @@ Inv-loop p m n step most k₀ k = (k ≤ most) × ((i : ℕ) → i < k → isReg
 abbrev μ-loop : tie.MeasureT-loop
 μ-loop p m n step most k₀ k = most - k
 
--- src/block.rt:174:5
 loop-holds : tie.Need-loop-holds Inv-loop μ-loop
 loop-holds c = (zero-le, below-none (λ i. _))
 
--- src/block.rt:175:44
 add-regular-of-size : tie.Need-add-regular-of-size Inv-loop μ-loop
 add-regular-of-size c = search needs
 
--- src/block.rt:175:13
 regular-of-size-requires : tie.Need-regular-of-size-requires Inv-loop μ-loop
 regular-of-size-requires c κs =
     let pre = c .before .before .pre in
@@ -52,7 +46,6 @@ size c =
     let a = c .before .before .before .args in
     at-next (a .p) (a .m) (a .n) (a .step) (c .before .before .loop .k) (c .regular-of-size .ensures)
 
--- src/block.rt:176:13
 returns : tie.Need-returns Inv-loop μ-loop
 unfolding regularUpTo
 returns c =
@@ -60,22 +53,18 @@ returns c =
     sym (every-false (a .most) (isRegular (a .p) (a .m) (a .n) (a .step)) (c .before .before .before .loop .k) (c .before .before .loop-test .taken)
     (sym (size (c .before)) ∙ not-true _ (c .if1 .taken)))
 
--- src/block.rt:178:9
 add-k : tie.Need-add-k Inv-loop μ-loop
 add-k c = search needs
 
--- src/block.rt:174:5
 loop-less : tie.Need-loop-less Inv-loop μ-loop
 loop-less c = search needs
 
--- src/block.rt:174:5
 loop-again : tie.Need-loop-again Inv-loop μ-loop
 loop-again c = (
   omega (arith, c .before .before .loop-test .taken),
   below-more _ _ (c .before .before .before .loop .inv .1) (sym (size (c .before)) ∙ not-false _ (c .if1 .left)),
 )
 
--- src/block.rt:169:1
 returns-2 : tie.Need-returns-2 Inv-loop μ-loop
 unfolding regularUpTo
 returns-2 c =

@@ -12,9 +12,6 @@ use Rattle.matrix.proofs.Minors.{stored-more}
 use borrow.Author.Needs.{needs}
 use Rattle.matrix.proofs.block.without.Statement.{statement}
 use Rattle.matrix.proofs.block.without.Tie as tie
-use Rattle.matrix.proofs.block.without.Reads as reads
-use Rattle.matrix.proofs.block.without.Lts as lts
-use Rattle.matrix.proofs.block.without_column.Reads as without-column-reads
 
 -- l is line a of the block that is left
 abbrev LineOf : List (List ℕ) → ℕ → ℕ → List ℕ → Type 0
@@ -26,47 +23,36 @@ Inv-loop n j block r₀ i₀ r i = (i < n) × (length r ≡ 8) × ((a : ℕ) →
 abbrev μ-loop : tie.MeasureT-loop
 μ-loop n j block r₀ i₀ r i = n - i
 
--- src/block.rt:31:5
 loop-holds : tie.Need-loop-holds Inv-loop μ-loop
 loop-holds c = (omega arith, refl, below-none (λ a. _))
 
--- src/block.rt:31:11
 add-loop : tie.Need-add-loop Inv-loop μ-loop
 add-loop c = search needs
 
--- src/block.rt:32:41
 add-without-column : tie.Need-add-without-column Inv-loop μ-loop
 add-without-column c = search needs
 
--- src/block.rt:32:35
 mul-without-column : tie.Need-mul-without-column Inv-loop μ-loop
 mul-without-column c = search needs
 
--- src/block.rt:32:35
 array-copy-out-without-column : tie.Need-array-copy-out-without-column Inv-loop μ-loop
 array-copy-out-without-column c = search needs
 
--- src/block.rt:32:13
 without-column-requires : tie.Need-without-column-requires Inv-loop μ-loop
 without-column-requires c κs = search needs
 
--- src/block.rt:33:9
 mul-r : tie.Need-mul-r Inv-loop μ-loop
 mul-r c = search needs
 
--- src/block.rt:33:9
 array-set-from-r : tie.Need-array-set-from-r Inv-loop μ-loop
 array-set-from-r c = search needs
 
--- src/block.rt:34:9
 add-i : tie.Need-add-i Inv-loop μ-loop
 add-i c = search needs
 
--- src/block.rt:31:5
 loop-less : tie.Need-loop-less Inv-loop μ-loop
 loop-less c = search needs
 
--- src/block.rt:31:5
 loop-again : tie.Need-loop-again Inv-loop μ-loop
 unfolding without
 loop-again c =
@@ -82,7 +68,6 @@ loop-again c =
           (λ k l. c .without-column .ensures k l ∙ ap (λ (n : ℕ). entry block n (skip j k)) (add-one i)),
     )
 
--- src/block.rt:25:1
 returns : tie.Need-returns Inv-loop μ-loop
 returns c = λ i k l h. c .before .loop .inv .2 i (omega arith) k h
 

@@ -10,8 +10,6 @@ use Rattle.matrix.proofs.Minors.{skip-before, skip-behind, stored-more}
 use borrow.Author.Needs.{needs}
 use Rattle.matrix.proofs.block.without_column.Statement.{statement}
 use Rattle.matrix.proofs.block.without_column.Tie as tie
-use Rattle.matrix.proofs.block.without_column.Reads as reads
-use Rattle.matrix.proofs.block.without_column.Lts as lts
 
 abbrev Inv-loop : tie.InvT-loop
 Inv-loop j line r₀ k₀ r k = (j ≤ k) × (k ≤ 7) × (length r ≡ 8) × ((i : ℕ) → i < k → getD r i 0 ≡ getD line (skip j i) 0)
@@ -19,34 +17,27 @@ Inv-loop j line r₀ k₀ r k = (j ≤ k) × (k ≤ 7) × (length r ≡ 8) × ((
 abbrev μ-loop : tie.MeasureT-loop
 μ-loop j line r₀ k₀ r k = 7 - k
 
--- src/block.rt:17:5
 loop-holds : tie.Need-loop-holds Inv-loop μ-loop
 loop-holds c =
     let line = c .args .t1 in
     let eight : length line ≡ 8 = search needs in
     (le-refl _, c .pre, eight, λ i l. ap (λ (n : ℕ). getD line n 0) (sym (skip-before (c .args .j) i l)))
 
--- src/block.rt:18:21
 add-r : tie.Need-add-r Inv-loop μ-loop
 add-r c = search needs
 
--- src/block.rt:18:16
 array-read-r : tie.Need-array-read-r Inv-loop μ-loop
 array-read-r c = search needs
 
--- src/block.rt:18:9
 array-write-r : tie.Need-array-write-r Inv-loop μ-loop
 array-write-r c = search needs
 
--- src/block.rt:19:9
 add-k : tie.Need-add-k Inv-loop μ-loop
 add-k c = search needs
 
--- src/block.rt:17:5
 loop-less : tie.Need-loop-less Inv-loop μ-loop
 loop-less c = search needs
 
--- src/block.rt:17:5
 loop-again : tie.Need-loop-again Inv-loop μ-loop
 loop-again c =
     let line = c .before .before .args .t1 in
@@ -61,7 +52,6 @@ loop-again c =
           (ap (λ (n : ℕ). getD line n 0) (add-one k ∙ sym (skip-behind j k (inv .0)))),
     )
 
--- src/block.rt:11:1
 returns : tie.Need-returns Inv-loop μ-loop
 returns c = λ k l. c .before .loop .inv .3 k (lt-of-lt-of-le l (c .loop-test .left))
 

@@ -10,8 +10,6 @@ use Rattle.search.specs.Lightest.{member}
 use borrow.Author.Needs.{needs}
 use Rattle.search.proofs.front.is_member.Statement.{statement}
 use Rattle.search.proofs.front.is_member.Tie as tie
-use Rattle.search.proofs.front.is_member.Reads as reads
-use Rattle.search.proofs.front.is_member.Lts as lts
 
 abbrev Inv-loop : tie.InvT-loop
 Inv-loop x values i₀ i = (i ≤ length values) × (member x values ≡ member x (drop i values))
@@ -19,19 +17,15 @@ Inv-loop x values i₀ i = (i ≤ length values) × (member x values ≡ member 
 abbrev μ-loop : tie.MeasureT-loop
 μ-loop x values i₀ i = length values - i
 
--- src/front.rt:57:5
 loop-holds : tie.Need-loop-holds Inv-loop μ-loop
 loop-holds c = (zero-le, refl)
 
--- src/front.rt:58:12
 mul-if1 : tie.Need-mul-if1 Inv-loop μ-loop
 mul-if1 c = search needs
 
--- src/front.rt:58:12
 shared-slice-read-if1 : tie.Need-shared-slice-read-if1 Inv-loop μ-loop
 shared-slice-read-if1 c = search needs
 
--- src/front.rt:59:13
 returns : tie.Need-returns Inv-loop μ-loop
 returns c =
     let args = c .before .before .before .before .args in
@@ -39,15 +33,12 @@ returns c =
     test-found (member (args .x)) (member-none (args .x)) (args .values .now) (at .i) (at .inv .1) _ (member-here (args .values .now) (at .i) (omega arith) (args .x))
     (eq-eqb (args .x) (getD (args .values .now) (at .i) 0) (sym (c .if1 .taken)))
 
--- src/front.rt:61:9
 add-i : tie.Need-add-i Inv-loop μ-loop
 add-i c = search needs
 
--- src/front.rt:57:5
 loop-less : tie.Need-loop-less Inv-loop μ-loop
 loop-less c = search needs
 
--- src/front.rt:57:5
 loop-again : tie.Need-loop-again Inv-loop μ-loop
 loop-again c =
     let args = c .before .before .before .before .args in
@@ -57,7 +48,6 @@ loop-again c =
           (ne-eqb (args .x) (getD (args .values .now) (at .i) 0) (λ e. c .if1 .left (sym e))),
     )
 
--- src/front.rt:53:1
 returns-2 : tie.Need-returns-2 Inv-loop μ-loop
 returns-2 c =
     let args = c .before .before .args in

@@ -2,22 +2,16 @@
 use Rattle.search.proofs.Refusals.{count-zero, count-four, count-eight, count-other}
 use Rattle.search.proofs.front.is_wrong_count.Statement.{statement}
 use Rattle.search.proofs.front.is_wrong_count.Tie as tie
-use Rattle.search.proofs.front.is_wrong_count.Reads as reads
-use Rattle.search.proofs.front.is_wrong_count.Lts as lts
 
--- src/front.rt:25:9
 returns : tie.Need-returns
 returns c = count-zero (c .before .args .n) (c .before .args .count) (c .if1 .taken)
 
--- src/front.rt:28:9
 returns-2 : tie.Need-returns-2
 returns-2 c = count-four (c .before .before .args .n) (c .before .before .args .count) (c .before .if1 .left) (c .if2 .taken)
 
--- src/front.rt:31:9
 returns-3 : tie.Need-returns-3
 returns-3 c = count-eight (c .before .before .before .args .n) (c .before .before .before .args .count) (c .before .before .if1 .left) (c .if3 .taken)
 
--- src/front.rt:21:1
 returns-4 : tie.Need-returns-4
 returns-4 c = count-other (c .before .before .before .args .n) (c .before .before .before .args .count) (c .before .before .if1 .left) (c .before .if2 .left) (c .if3 .left)
 

@@ -2,14 +2,10 @@
 use Rattle.search.proofs.Refusals.{order-four, order-other}
 use Rattle.search.proofs.front.is_wrong_order.Statement.{statement}
 use Rattle.search.proofs.front.is_wrong_order.Tie as tie
-use Rattle.search.proofs.front.is_wrong_order.Reads as reads
-use Rattle.search.proofs.front.is_wrong_order.Lts as lts
 
--- src/front.rt:15:9
 returns : tie.Need-returns
 returns c = order-four (c .before .args .n) (c .if1 .taken)
 
--- src/front.rt:11:1
 returns-2 : tie.Need-returns-2
 returns-2 c = order-other (c .before .args .n) (c .if1 .left)
 

@@ -4,24 +4,16 @@ use Rattle.search.proofs.Refusals.{bad-zero, bad-repeated}
 use borrow.Author.Needs.{needs}
 use Rattle.search.proofs.front.some_bad.Statement.{statement}
 use Rattle.search.proofs.front.some_bad.Tie as tie
-use Rattle.search.proofs.front.some_bad.Reads as reads
-use Rattle.search.proofs.front.some_bad.Lts as lts
-use Rattle.search.proofs.front.is_member.Reads as is-member-reads
-use Rattle.search.proofs.front.some_repeated.Reads as some-repeated-reads
 
--- src/front.rt:85:8
 is-member-requires : tie.Need-is-member-requires
 is-member-requires c κs = search needs
 
--- src/front.rt:86:9
 returns : tie.Need-returns
 returns c = bad-zero (c .before .before .before .args .values .now) (sym (c .before .is-member .ensures) ∙ c .if1 .taken)
 
--- src/front.rt:88:5
 some-repeated-requires : tie.Need-some-repeated-requires
 some-repeated-requires c κs = search needs
 
--- src/front.rt:82:1
 returns-2 : tie.Need-returns-2
 returns-2 c = bad-repeated (c .before .before .before .before .args .values .now) (c .some-repeated .result) (sym (c .before .before .is-member .ensures) ∙ c .before .if1 .left) (c .some-repeated .ensures)
 

@@ -8,9 +8,6 @@ use Rattle.search.proofs.Refusals.{test-none, test-found, test-next, re
 use borrow.Author.Needs.{needs}
 use Rattle.search.proofs.front.some_repeated.Statement.{statement}
 use Rattle.search.proofs.front.some_repeated.Tie as tie
-use Rattle.search.proofs.front.some_repeated.Reads as reads
-use Rattle.search.proofs.front.some_repeated.Lts as lts
-use Rattle.search.proofs.front.is_member.Reads as is-member-reads
 
 abbrev Inv-loop : tie.InvT-loop
 Inv-loop values i₀ i = (i ≤ length values) × (someRepeated values ≡ someRepeated (drop i values))
@@ -18,43 +15,33 @@ Inv-loop values i₀ i = (i ≤ length values) × (someRepeated values ≡ someR
 abbrev μ-loop : tie.MeasureT-loop
 μ-loop values i₀ i = length values - i
 
--- src/front.rt:71:5
 loop-holds : tie.Need-loop-holds Inv-loop μ-loop
 loop-holds c = (zero-le, refl)
 
--- src/front.rt:72:20
 add-next : tie.Need-add-next Inv-loop μ-loop
 add-next c = search needs
 
--- src/front.rt:73:22
 mul-is-member : tie.Need-mul-is-member Inv-loop μ-loop
 mul-is-member c = search needs
 
--- src/front.rt:73:22
 shared-slice-read-is-member : tie.Need-shared-slice-read-is-member Inv-loop μ-loop
 shared-slice-read-is-member c = search needs
 
--- src/front.rt:73:33
 mul-is-member-2 : tie.Need-mul-is-member-2 Inv-loop μ-loop
 mul-is-member-2 c = search needs
 
--- src/front.rt:73:33
 sub-is-member : tie.Need-sub-is-member Inv-loop μ-loop
 sub-is-member c = search needs
 
--- src/front.rt:73:33
 part-is-member-start : tie.Need-part-is-member-start Inv-loop μ-loop
 part-is-member-start c = search needs
 
--- src/front.rt:73:33
 part-is-member-end : tie.Need-part-is-member-end Inv-loop μ-loop
 part-is-member-end c = search needs
 
--- src/front.rt:73:12
 is-member-requires : tie.Need-is-member-requires Inv-loop μ-loop
 is-member-requires c κs = search needs
 
--- src/front.rt:74:13
 returns : tie.Need-returns Inv-loop μ-loop
 returns c =
     let args = c .before .before .before .before .before .before .before .args in
@@ -62,11 +49,9 @@ returns c =
     test-found someRepeated repeated-none (args .values .now) (at .i) (at .inv .1) _ (repeated-here (args .values .now) (at .i) (omega arith))
     (sym (rest-member (args .values .now) (at .i) (c .before .is-member .result) (c .before .is-member .ensures)) ∙ c .if1 .taken)
 
--- src/front.rt:71:5
 loop-less : tie.Need-loop-less Inv-loop μ-loop
 loop-less c = search needs
 
--- src/front.rt:71:5
 loop-again : tie.Need-loop-again Inv-loop μ-loop
 loop-again c =
     let args = c .before .before .before .before .before .before .before .args in
@@ -76,7 +61,6 @@ loop-again c =
           (sym (rest-member (args .values .now) (at .i) (c .before .is-member .result) (c .before .is-member .ensures)) ∙ c .if1 .left),
     )
 
--- src/front.rt:67:1
 returns-2 : tie.Need-returns-2 Inv-loop μ-loop
 returns-2 c =
     let args = c .before .before .before .args in

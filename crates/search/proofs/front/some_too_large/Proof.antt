@@ -9,9 +9,6 @@ use Rattle.search.specs.Answer.{someTooLarge}
 use borrow.Author.Needs.{needs}
 use Rattle.search.proofs.front.some_too_large.Statement.{statement}
 use Rattle.search.proofs.front.some_too_large.Tie as tie
-use Rattle.search.proofs.front.some_too_large.Reads as reads
-use Rattle.search.proofs.front.some_too_large.Lts as lts
-use Rattle.search.proofs.prices.size.Reads as size-reads
 
 abbrev Inv-loop : tie.InvT-loop
 Inv-loop p values end i₀ i = (i ≤ length values) × (someTooLarge p values ≡ someTooLarge p (drop i values))
@@ -19,27 +16,21 @@ Inv-loop p values end i₀ i = (i ≤ length values) × (someTooLarge p values �
 abbrev μ-loop : tie.MeasureT-loop
 μ-loop p values end i₀ i = length values - i
 
--- src/front.rt:41:15
 size-requires : tie.Need-size-requires Inv-loop μ-loop
 size-requires c κs = search needs
 
--- src/front.rt:41:15
 cast-end : tie.Need-cast-end Inv-loop μ-loop
 cast-end c = record { fits = omega (arith, c .size .ensures, field-most (c .before .before .args .p) (c .before .before .pre)) }
 
--- src/front.rt:43:5
 loop-holds : tie.Need-loop-holds Inv-loop μ-loop
 loop-holds c = (zero-le, refl)
 
--- src/front.rt:44:19
 mul-if1 : tie.Need-mul-if1 Inv-loop μ-loop
 mul-if1 c = search needs
 
--- src/front.rt:44:19
 shared-slice-read-if1 : tie.Need-shared-slice-read-if1 Inv-loop μ-loop
 shared-slice-read-if1 c = search needs
 
--- src/front.rt:45:13
 returns : tie.Need-returns Inv-loop μ-loop
 returns c =
     let args = c .before .before .before .before .before .before .args in
@@ -47,15 +38,12 @@ returns c =
     test-found (someTooLarge (args .p)) (large-none (args .p)) (args .values .now) (at .i) (at .inv .1) _ (large-here (args .values .now) (at .i) (omega arith) (args .p))
     (large-true (args .p) _ _ (c .before .before .before .before .size .ensures) (c .if1 .taken))
 
--- src/front.rt:47:9
 add-i : tie.Need-add-i Inv-loop μ-loop
 add-i c = search needs
 
--- src/front.rt:43:5
 loop-less : tie.Need-loop-less Inv-loop μ-loop
 loop-less c = search needs
 
--- src/front.rt:43:5
 loop-again : tie.Need-loop-again Inv-loop μ-loop
 loop-again c =
     let args = c .before .before .before .before .before .before .args in
@@ -65,7 +53,6 @@ loop-again c =
           (large-false (args .p) _ _ (c .before .before .before .before .size .ensures) (c .if1 .left)),
     )
 
--- src/front.rt:37:1
 returns-2 : tie.Need-returns-2 Inv-loop μ-loop
 returns-2 c =
     let args = c .before .before .before .before .args in

@@ -53,92 +53,77 @@ branch-given t =
 abbrev extend-given : ℕ → extend-lts.Claims
 extend-given t = (xor-of-reads.Asked, xor-of-reads.Learnt, branch-below t, branch.Post)
 
--- src/prefix.rt:84:9
 branch-goes-on-requires : (t : ℕ) → branch-lts.Need-goes-on-requires (branch-given t) (branch-at t) branch.Post
 branch-goes-on-requires t c κs =
     let s = c .before in
     let eight : length (s .args .prefix) ≡ 8 = search needs in
     depth-inside (s .pre .1 .0) eight
 
--- src/prefix.rt:85:9
 branch-returns : (t : ℕ) → branch-lts.Need-returns (branch-given t) (branch-at t) branch.Post
 branch-returns t c =
     let s = c .before .before .before in
     let eight : length (s .args .prefix) ≡ 8 = search needs in
     branch-left (s .pre .1 .0) eight (s .pre .1 .1) (sym (c .before .goes-on .ensures) ∙ not-true (c .before .goes-on .result) (c .if1 .taken))
 
--- src/prefix.rt:87:16
 branch-add-next : (t : ℕ) → branch-lts.Need-add-next (branch-given t) (branch-at t) branch.Post
 branch-add-next t c = search needs
 
--- src/prefix.rt:88:25
 branch-element-copy-out-total : (t : ℕ) → branch-lts.Need-element-copy-out-total (branch-given t) (branch-at t) branch.Post
 branch-element-copy-out-total t c = search needs
 
--- src/prefix.rt:88:25
 branch-cast-total : (t : ℕ) → branch-lts.Need-cast-total (branch-given t) (branch-at t) branch.Post
 branch-cast-total t c =
     let s = c .before .before .before .before in
     let eight : length (s .args .prefix) ≡ 8 = search needs in
     record { fits = omega (arith, letter-small (s .pre .1 .0) eight (s .pre .1 .1)) }
 
--- src/prefix.rt:88:17
 branch-add-total : (t : ℕ) → branch-lts.Need-add-total (branch-given t) (branch-at t) branch.Post
 branch-add-total t c =
     let s = c .before .before .before .before in
     let eight : length (s .args .prefix) ≡ 8 = search needs in
     record { fits = omega (arith, letter-small (s .pre .1 .0) eight (s .pre .1 .1), count-small (s .pre .1 .0) eight) }
 
--- src/prefix.rt:89:40
 branch-sub-is-heavy : (t : ℕ) → branch-lts.Need-sub-is-heavy (branch-given t) (branch-at t) branch.Post
 branch-sub-is-heavy t c = search needs
 
--- src/prefix.rt:89:39
 branch-cast-is-heavy : (t : ℕ) → branch-lts.Need-cast-is-heavy (branch-given t) (branch-at t) branch.Post
 branch-cast-is-heavy t c =
     let s = c .before .before .before .before in
     record { fits = omega (arith, order-most (s .args .n) (s .pre .1 .0 .brief .order)) }
 
--- src/prefix.rt:89:31
 branch-mul-is-heavy : (t : ℕ) → branch-lts.Need-mul-is-heavy (branch-given t) (branch-at t) branch.Post
 branch-mul-is-heavy t c =
     let s = c .before .before .before .before in
     let eight : length (s .args .prefix) ≡ 8 = search needs in
     record { fits = lt-of-le-of-lt (bound-small (s .pre .1 .0) eight) (lit< tt) }
 
--- src/prefix.rt:89:23
 branch-add-is-heavy : (t : ℕ) → branch-lts.Need-add-is-heavy (branch-given t) (branch-at t) branch.Post
 branch-add-is-heavy t c =
     let s = c .before .before .before .before in
     let eight : length (s .args .prefix) ≡ 8 = search needs in
     record { fits = omega (arith, letter-small (s .pre .1 .0) eight (s .pre .1 .1), count-small (s .pre .1 .0) eight, bound-small (s .pre .1 .0) eight) }
 
--- src/prefix.rt:89:8
 branch-is-heavy-requires : (t : ℕ) → branch-lts.Need-is-heavy-requires (branch-given t) (branch-at t) branch.Post
 branch-is-heavy-requires t c κs = search needs
 
--- src/prefix.rt:90:9
 branch-returns-2 : (t : ℕ) → branch-lts.Need-returns-2 (branch-given t) (branch-at t) branch.Post
 branch-returns-2 t c =
     let s = c .before .before .before .before .before .before in
     let eight : length (s .args .prefix) ≡ 8 = search needs in
     branch-heavy (s .pre .1 .0) eight (s .pre .1 .1) (sym (c .before .is-heavy .ensures) ∙ c .if2 .taken)
 
--- src/prefix.rt:93:5
 branch-array-write-row : (t : ℕ) → branch-lts.Need-array-write-row (branch-given t) (branch-at t) branch.Post
 branch-array-write-row t c =
     let s = c .before .before .before .before .before .before in
     let eight : length (s .args .prefix) ≡ 8 = search needs in
     depth-inside (s .pre .1 .0) eight
 
--- src/prefix.rt:95:9
 branch-finish-requires : (t : ℕ) → branch-lts.Need-finish-requires (branch-given t) (branch-at t) branch.Post
 branch-finish-requires t c κs =
     let s = c .before .before .before .before .before .before .before in
     let eight : length (s .args .prefix) ≡ 8 = search needs in
     (whole-next (s .pre .1 .0) eight (s .pre .1 .1) (sym (c .before .before .before .before .before .goes-on .ensures) ∙ not-false (c .before .before .before .before .before .goes-on .result) (c .before .before .before .before .if1 .left)) (c .if3 .taken), s .pre .1 .0 .keeps)
 
--- src/prefix.rt:97:9
 branch-extend-requires : (t : ℕ) → branch-lts.Need-extend-requires (branch-given t) (branch-at t) branch.Post
 branch-extend-requires t c κs =
     let s = c .before .before .before .before .before .before .before in
@@ -150,7 +135,6 @@ branch-extend-requires t c κs =
     let less : n - (depth + 1) + (n - (depth + 1)) + 1 < t = omega arith in
     (less, stands-next (s .pre .1 .0) eight (s .pre .1 .1) (sym (c .before .before .before .before .before .goes-on .ensures) ∙ not-false (c .before .before .before .before .before .goes-on .result) (c .before .before .before .before .if1 .left)) (c .if3 .left))
 
--- src/prefix.rt:69:1
 branch-returns-3 : (t : ℕ) → branch-lts.Need-returns-3 (branch-given t) (branch-at t) branch.Post
 branch-returns-3 t c =
     let s = c .before .before .before .before .before .before .before .before in
@@ -159,7 +143,6 @@ branch-returns-3 t c =
     (branch-whole (s .pre .1 .0) eight (s .pre .1 .1) (sym (c .before .before .before .before .before .before .goes-on .ensures) ∙ not-false (c .before .before .before .before .before .before .goes-on .result) (c .before .before .before .before .before .if1 .left)) (c .before .if3 .taken) (sym (c .before .before .before .is-heavy .ensures) ∙ c .before .before .if2 .left))
     (c .finish .ensures)
 
--- src/prefix.rt:69:1
 branch-returns-4 : (t : ℕ) → branch-lts.Need-returns-4 (branch-given t) (branch-at t) branch.Post
 branch-returns-4 t c =
     let s = c .before .before .before .before .before .before .before .before in
@@ -175,38 +158,32 @@ extend-Inv-loop p n letters cost least depth prefix count kept₀ i₀ kept i = 
 abbrev extend-μ-loop : extend-lts.MeasureT-loop
 extend-μ-loop p n letters cost least depth prefix count kept₀ i₀ kept i = length letters - i
 
--- src/prefix.rt:116:8
 extend-add-if1 : (t : ℕ) → extend-lts.Need-add-if1 (extend-given t) (extend-at t) extend.Post extend-Inv-loop extend-μ-loop
 extend-add-if1 t c = search needs
 
--- src/prefix.rt:117:17
 extend-xor-of-requires : (t : ℕ) → extend-lts.Need-xor-of-requires (extend-given t) (extend-at t) extend.Post extend-Inv-loop extend-μ-loop
 extend-xor-of-requires t c κs =
     let s = c .before .before in
     omega (arith, s .pre .1 .inside, order-most (s .args .n) (s .pre .1 .brief .order))
 
--- src/prefix.rt:118:17
 extend-cast-if2 : (t : ℕ) → extend-lts.Need-cast-if2 (extend-given t) (extend-at t) extend.Post extend-Inv-loop extend-μ-loop
 extend-cast-if2 t c =
     let s = c .before .before .before in
     let eight : length (s .args .prefix) ≡ 8 = search needs in
     record { fits = lt-of-lt-of-le (last-byte (s .pre .1) eight (c .before .if1 .taken) (c .xor-of .result) (omega (arith, c .xor-of .ok)) (c .xor-of .ensures)) (lit≤ tt) }
 
--- src/prefix.rt:118:12
 extend-element-copy-out-if2 : (t : ℕ) → extend-lts.Need-element-copy-out-if2 (extend-given t) (extend-at t) extend.Post extend-Inv-loop extend-μ-loop
 extend-element-copy-out-if2 t c =
     let s = c .before .before .before in
     let eight : length (s .args .prefix) ≡ 8 = search needs in
     last-byte (s .pre .1) eight (c .before .if1 .taken) (c .xor-of .result) (omega (arith, c .xor-of .ok)) (c .xor-of .ensures)
 
--- src/prefix.rt:119:13
 extend-returns : (t : ℕ) → extend-lts.Need-returns (extend-given t) (extend-at t) extend.Post extend-Inv-loop extend-μ-loop
 extend-returns t c =
     let s = c .before .before .before .before .before in
     let eight : length (s .args .prefix) ≡ 8 = search needs in
     last-left (s .pre .1) eight (c .before .before .before .if1 .taken) (c .before .before .xor-of .result) (omega (arith, c .before .before .xor-of .ok)) (c .before .before .xor-of .ensures) (c .if2 .taken)
 
--- src/prefix.rt:121:9
 extend-branch-requires : (t : ℕ) → extend-lts.Need-branch-requires (extend-given t) (extend-at t) extend.Post extend-Inv-loop extend-μ-loop
 extend-branch-requires t c κs =
     let s = c .before .before .before .before .before in
@@ -217,22 +194,18 @@ extend-branch-requires t c κs =
     let less : n - depth + (n - depth) < t = omega arith in
     (less, (s .pre .1, last-taken (s .pre .1) eight (c .before .before .before .if1 .taken) (c .before .before .xor-of .result) (omega (arith, c .before .before .xor-of .ok)) (c .before .before .xor-of .ensures) (c .if2 .left)))
 
--- src/prefix.rt:121:9
 extend-returns-2 : (t : ℕ) → extend-lts.Need-returns-2 (extend-given t) (extend-at t) extend.Post extend-Inv-loop extend-μ-loop
 extend-returns-2 t c =
     let s = c .before .before .before .before .before .before in
     let eight : length (s .args .prefix) ≡ 8 = search needs in
     last-row (s .pre .1) eight (c .before .before .before .before .if1 .taken) (c .before .before .before .xor-of .result) (omega (arith, c .before .before .before .xor-of .ok)) (c .before .before .before .xor-of .ensures) (c .before .if2 .left) (c .branch .result) (c .branch .ensures)
 
--- src/prefix.rt:125:5
 extend-loop-holds : (t : ℕ) → extend-lts.Need-loop-holds (extend-given t) (extend-at t) extend.Post extend-Inv-loop extend-μ-loop
 extend-loop-holds t c = (zero-le, upto-none (c .before .before .pre .1))
 
--- src/prefix.rt:126:77
 extend-shared-slice-read-a : (t : ℕ) → extend-lts.Need-shared-slice-read-a (extend-given t) (extend-at t) extend.Post extend-Inv-loop extend-μ-loop
 extend-shared-slice-read-a t c = search needs
 
--- src/prefix.rt:126:13
 extend-branch-requires-2 : (t : ℕ) → extend-lts.Need-branch-requires-2 (extend-given t) (extend-at t) extend.Post extend-Inv-loop extend-μ-loop
 extend-branch-requires-2 t c κs =
     let s = c .before .before .before .before .before in
@@ -243,15 +216,12 @@ extend-branch-requires-2 t c κs =
     let less : n - depth + (n - depth) < t = omega arith in
     (less, (stands-kept (s .pre .1) (at .kept) _ (at .inv .1), upto-letter (s .pre .1) (c .before .before .before .if1 .left) (at .i) (c .before .loop-test .taken)))
 
--- src/prefix.rt:128:9
 extend-add-i : (t : ℕ) → extend-lts.Need-add-i (extend-given t) (extend-at t) extend.Post extend-Inv-loop extend-μ-loop
 extend-add-i t c = search needs
 
--- src/prefix.rt:125:5
 extend-loop-less : (t : ℕ) → extend-lts.Need-loop-less (extend-given t) (extend-at t) extend.Post extend-Inv-loop extend-μ-loop
 extend-loop-less t c = search needs
 
--- src/prefix.rt:125:5
 extend-loop-again : (t : ℕ) → extend-lts.Need-loop-again (extend-given t) (extend-at t) extend.Post extend-Inv-loop extend-μ-loop
 extend-loop-again t c =
     let s = c .before .before .before .before .before .before in
@@ -259,7 +229,6 @@ extend-loop-again t c =
     let less = c .before .before .loop-test .taken in
     (omega (arith, less), upto-more (s .pre .1) (at .i) less (at .kept) (c .branch2 .result) (at .inv .1) (c .branch2 .ensures))
 
--- src/prefix.rt:102:1
 extend-returns-3 : (t : ℕ) → extend-lts.Need-returns-3 (extend-given t) (extend-at t) extend.Post extend-Inv-loop extend-μ-loop
 extend-returns-3 t c =
     let s = c .before .before .before .before in

@@ -7,16 +7,10 @@ use Rattle.search.specs.Kept.{bestAs}
 use Rattle.search.proofs.Steps.{order-halves, order-most, matrix-in-field, finish-taken, finish-left}
 use Rattle.search.proofs.prefix.finish.Statement.{statement}
 use Rattle.search.proofs.prefix.finish.Tie as tie
-use Rattle.search.proofs.prefix.finish.Reads as reads
-use Rattle.search.proofs.prefix.finish.Lts as lts
-use Rattle.matrix.proofs.block.regular_up_to.Reads as regular-up-to-reads
-use Rattle.matrix.proofs.multiply.hadamard_matrix.Reads as hadamard-matrix-reads
 
--- src/prefix.rt:59:9
 hadamard-matrix-requires : tie.Need-hadamard-matrix-requires
 hadamard-matrix-requires c κs = order-halves (c .args .n) (c .pre .0 .order)
 
--- src/prefix.rt:60:8
 regular-up-to-requires : tie.Need-regular-up-to-requires
 regular-up-to-requires c κs =
     let args = c .before .args in
@@ -25,7 +19,6 @@ regular-up-to-requires c κs =
     let half : args .n / 2 ≤ args .n = omega arith in
     (w .modulus, most, half, lit≤ tt, lit≤ tt, matrix-in-field (args .p) (args .n) (args .row) (args .sum) w (c .hadamard-matrix .result) (c .hadamard-matrix .ensures))
 
--- src/prefix.rt:55:1
 returns : tie.Need-returns
 returns c =
     let args = c .before .before .before .args in
@@ -33,7 +26,6 @@ returns c =
     finish-taken (args .p) (args .n) (args .row) (args .sum) (c .before .before .before .pre .0) (m .result) (m .ensures) (bestAs (args .n) (args .best))
     (sym (c .before .regular-up-to .ensures) ∙ c .if1 .taken)
 
--- src/prefix.rt:55:1
 returns-2 : tie.Need-returns-2
 returns-2 c =
     let args = c .before .before .before .args in

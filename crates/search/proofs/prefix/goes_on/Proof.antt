@@ -10,8 +10,6 @@ use Rattle.search.proofs.Steps.{place-inside, goes-first, goes-low, goe
 use borrow.Author.Needs.{needs}
 use Rattle.search.proofs.prefix.goes_on.Statement.{statement}
 use Rattle.search.proofs.prefix.goes_on.Tie as tie
-use Rattle.search.proofs.prefix.goes_on.Reads as reads
-use Rattle.search.proofs.prefix.goes_on.Lts as lts
 
 abbrev Inv-loop : tie.InvT-loop
 Inv-loop depth a row low i₀ i = (i ≤ depth) × (member a (take i row) ≡ false)
@@ -19,55 +17,44 @@ Inv-loop depth a row low i₀ i = (i ≤ depth) × (member a (take i row) ≡ fa
 abbrev μ-loop : tie.MeasureT-loop
 μ-loop depth a row low i₀ i = depth - i
 
--- src/prefix.rt:27:9
 returns : tie.Need-returns Inv-loop μ-loop
 returns c = goes-first (c .before .args .t1) (c .before .args .depth) (c .before .args .a) (c .if1 .taken)
 
--- src/prefix.rt:29:15
 mul-low : tie.Need-mul-low Inv-loop μ-loop
 mul-low c = search needs
 
--- src/prefix.rt:29:15
 array-read-low : tie.Need-array-read-low Inv-loop μ-loop
 array-read-low c = search needs
 
--- src/prefix.rt:30:13
 array-read-if2 : tie.Need-array-read-if2 Inv-loop μ-loop
 unfolding placeBefore
 array-read-if2 c = place-inside (c .before .args .depth) (c .if1 .left) (c .before .pre)
 
--- src/prefix.rt:31:9
 returns-2 : tie.Need-returns-2 Inv-loop μ-loop
 unfolding placeBefore
 returns-2 c =
     let args = c .before .before .args in
     goes-low (args .t1) (args .depth) (args .a) (c .before .if1 .left) (c .if2 .taken)
 
--- src/prefix.rt:34:5
 loop-holds : tie.Need-loop-holds Inv-loop μ-loop
 unfolding member
 loop-holds c = (zero-le, refl)
 
--- src/prefix.rt:35:12
 array-read-if3 : tie.Need-array-read-if3 Inv-loop μ-loop
 array-read-if3 c = search needs
 
--- src/prefix.rt:36:13
 returns-3 : tie.Need-returns-3 Inv-loop μ-loop
 returns-3 c =
     let args = c .before .before .before .before .before .args in
     let eight : length (args .t1) ≡ 8 = search needs in
     goes-equal (args .t1) (args .depth) (args .a) (c .before .before .loop .i) (c .before .loop-test .taken) (omega arith) (c .if3 .taken)
 
--- src/prefix.rt:38:9
 add-i : tie.Need-add-i Inv-loop μ-loop
 add-i c = search needs
 
--- src/prefix.rt:34:5
 loop-less : tie.Need-loop-less Inv-loop μ-loop
 loop-less c = search needs
 
--- src/prefix.rt:34:5
 loop-again : tie.Need-loop-again Inv-loop μ-loop
 loop-again c =
     let args = c .before .before .before .before .before .args in
@@ -75,7 +62,6 @@ loop-again c =
     let eight : length (args .t1) ≡ 8 = search needs in
     (omega arith, goes-turn (args .t1) (args .depth) (args .a) (at .i) (omega arith) (at .inv .1) (c .if3 .left))
 
--- src/prefix.rt:22:1
 returns-4 : tie.Need-returns-4 Inv-loop μ-loop
 unfolding placeBefore
 returns-4 c =

@@ -3,14 +3,10 @@ use mathlib.Core.Path.{sym}
 use Rattle.search.proofs.Steps.{heavy-found, heavy-none}
 use Rattle.search.proofs.prefix.is_heavy.Statement.{statement}
 use Rattle.search.proofs.prefix.is_heavy.Tie as tie
-use Rattle.search.proofs.prefix.is_heavy.Reads as reads
-use Rattle.search.proofs.prefix.is_heavy.Lts as lts
 
--- src/prefix.rt:44:1
 returns : tie.Need-returns
 returns c = sym (heavy-found (c .before .before .args .best) (c .before .before .args .sum) (c .before .if1 .taken))
 
--- src/prefix.rt:44:1
 returns-2 : tie.Need-returns-2
 returns-2 c = sym (heavy-none (c .before .args .best) (c .before .args .sum) (c .if1 .left))
 
