@@ -2,17 +2,19 @@
 -- kernel, and a block with a kernel gives such an input.
 use mathlib.Core.Path.{_≡_, refl, sym, ap, _∙_, fun-ext}
 use mathlib.Core.Bool.{Bool, true, not}
-use mathlib.Core.List.{List}
+use mathlib.Core.List.{List, List·Memᴰ}
 use Prim.Native.Nat.{ℕ, _+_, _-_, _^_, _≤_, _<_}
 use native.Mathlib.Nat.{zero-add}
 use native.Mathlib.Omega.{arith}
 use lib.ListN.{length, getD, length-map}
-use Rattle.algebra.specs.Operations.{Operations, Field}
-use Rattle.algebra.specs.Matrix.{sum, weight, activity, apply, det, block, chosen}
+use Rattle.algebra.specs.Operations.{Operations}
+use Rattle.algebra.proofs.FieldLaws.{Field}
+use Rattle.algebra.specs.Matrix.{sum, weight, activity, apply, det}
+use Rattle.algebra.specs.Steps.{block, chosen, hasKernel}
 use Rattle.algebra.proofs.Rectangles.{dot, Kernel, sum-word}
 use Rattle.algebra.proofs.Words.{getD-tabulate}
 use Rattle.algebra.proofs.Weights.{weight-le, length-apply}
-use Rattle.algebra.proofs.Kernel.{hasKernel, has-to, has-from, det-to, det-from}
+use Rattle.algebra.proofs.Kernel.{has-to, has-from, det-to, det-from}
 use Rattle.algebra.proofs.Choices.{digits, maskOf, count, placesOf, mask-lt, length-digits, chosen-digits, chosen-mask, length-places, spread, support}
 use Rattle.algebra.proofs.Choices.{supportMask, others, nulls, length-spread, weight-spread, dot-spread, spread-support, length-others}
 use Rattle.algebra.proofs.Choices.{count-support, length-nulls, count-nulls, nulls-null, weight-room, Reads, NullAt}
@@ -86,11 +88,11 @@ module _ (K : Operations) (L : Field K) where
       (w .0, w .1, w .2, omega (arith, w .3), omega (arith, w .3, w .4))
 
   -- a block with a kernel bounds the least activity
-  pub kernel-activity : (n : ℕ) (f : ℕ → ℕ → E) (r s : ℕ)
-      → hasKernel K (length (chosen n s)) (length (chosen n r)) (block f (chosen n r) (chosen n s)) ≡ true
+  pub kernel-activity : (elements : List E) (complete : (a : E) → List·Memᴰ a elements) (n : ℕ) (f : ℕ → ℕ → E) (r s : ℕ)
+      → hasKernel K elements (length (chosen n s)) (length (chosen n r)) (block f (chosen n r) (chosen n s)) ≡ true
       → (x : List E) × (length x ≡ n) × (0 < weight K x) × (activity K n f x + length (chosen n r) ≤ length (chosen n s) + n)
-  kernel-activity n f r s h =
-      let w = of-block n f r s (has-to K L (length (chosen n s)) (length (chosen n r)) (block f (chosen n r) (chosen n s)) h) in
+  kernel-activity elements complete n f r s h =
+      let w = of-block n f r s (has-to K L elements complete (length (chosen n s)) (length (chosen n r)) (block f (chosen n r) (chosen n s)) h) in
       (w .0, w .1, w .2, omega (arith, w .3, w .4))
 
   -- ---- from an input to a block
@@ -160,12 +162,12 @@ module _ (K : Operations) (L : Field K) where
       (w .0, w .1, w .2, w .3, w .4, w .5, w .6, det-from K L (weight K x) (block f (chosen n (w .0)) (chosen n (w .1))) (w .7))
 
   -- every input's activity is met by a block with a kernel, its columns the places of the words that are not zero
-  pub activity-kernel : (n : ℕ) (f : ℕ → ℕ → E) (x : List E) → length x ≡ n → 0 < weight K x
+  pub activity-kernel : (elements : List E) (complete : (a : E) → List·Memᴰ a elements) (n : ℕ) (f : ℕ → ℕ → E) (x : List E) → length x ≡ n → 0 < weight K x
       → (r : ℕ) × (s : ℕ) × (r < 2 ^ n) × (s < 2 ^ n) × (s ≡ supportMask K x) × (0 < length (chosen n s))
-      × (hasKernel K (length (chosen n s)) (length (chosen n r)) (block f (chosen n r) (chosen n s)) ≡ true)
+      × (hasKernel K elements (length (chosen n s)) (length (chosen n r)) (block f (chosen n r) (chosen n s)) ≡ true)
       × (activity K n f x + length (chosen n r) ≡ length (chosen n s) + n)
   unfolding activity
-  activity-kernel n f x e h =
+  activity-kernel elements complete n f x e h =
       let room : weight K (apply K n f x) ≤ n = omega (arith, weight-le K (apply K n f x), length-apply K n f x) in
       let w = of-input n f x (n - weight K (apply K n f x)) e h (omega arith) in (
         w .0,
@@ -174,6 +176,6 @@ module _ (K : Operations) (L : Field K) where
         w .3,
         w .6,
         omega (arith, w .5),
-        has-from K L (length (chosen n (w .1))) (length (chosen n (w .0))) (block f (chosen n (w .0)) (chosen n (w .1))) (rw (w .4, w .5) (w .7)),
+        has-from K L elements complete (length (chosen n (w .1))) (length (chosen n (w .0))) (block f (chosen n (w .0)) (chosen n (w .1))) (rw (w .4, w .5) (w .7)),
         omega (arith, w .4, w .5),
       )

@@ -9,7 +9,8 @@ use native.Mathlib.Nat.{le-trans, le-refl, not-suc-le-zero, zero-lt-suc, min-eq-
 use native.Mathlib.Omega.{arith}
 use lib.ListN.{length}
 use borrow.Author.Tests.{eqb-true, eq-eqb}
-use Rattle.algebra.specs.Operations.{Operations, Field}
+use Rattle.algebra.specs.Operations.{Operations}
+use Rattle.algebra.proofs.FieldLaws.{Field}
 use Rattle.algebra.specs.Matrix.{words, apply, weight, activity, unlessZero, leastActivity, branchNumber, isMds}
 use Rattle.algebra.proofs.Words.{words-all, words-only}
 use Rattle.algebra.proofs.Sums.{le-or-lt}

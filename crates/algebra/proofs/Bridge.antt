@@ -2,15 +2,17 @@
 -- map, all these depend on the entries of the lines and columns below the order alone.
 -- Assumes nothing.
 use mathlib.Core.Path.{_≡_, refl, sym, ap, ap₂, _∙_}
-use mathlib.Core.Bool.{Bool, _&&_}
+use mathlib.Core.Bool.{Bool, _&&_, _||_}
 use mathlib.Core.List.{List, [], _∷_, _++_, map, map-append, map-id}
 use Prim.Native.Nat.{ℕ, zero, suc, _+_, _<_, suc-le-suc}
 use native.Mathlib.Nat.{le-trans, le-refl, le-suc, not-suc-le-zero, zero-lt-suc, le-of-suc-le-suc}
 use lib.Bits.{bitXor}
-use lib.Dec.{eqb}
+use lib.Dec.{eqb, ltb}
 use lib.ListN.{getD, List·getD-map}
 use Rattle.algebra.specs.Operations.{Operations}
-use Rattle.algebra.specs.Matrix.{tabulate, before, words, sum, apply, hadamard, skip, without, det, weight, oneUnless, activity, leastActivity, branchNumber, isMds, sameWords, givesBack, isInvolution}
+use Rattle.algebra.specs.Matrix.{tabulate, before, words, sum, apply, applyTo, hadamard, skip, without, det, weight, activity, leastActivity, branchNumber, isMds, sameWords, givesBack, isInvolution}
+use Rattle.algebra.specs.Steps.{someToZero, hasKernel}
+use Rattle.algebra.proofs.Words.{oneUnless}
 use Rattle.algebra.proofs.Words.{tabulate-cong}
 
 -- h keeps the operations
@@ -97,13 +99,30 @@ module _ (K M : Operations) (h : K .Element → M .Element) (H : Homomorphism K 
   unfolding hadamard
   hadamard-bridge row i j = getD-bridge row (bitXor i j)
 
+  module _ (c r : ℕ) (f : ℕ → ℕ → K .Element) (g : ℕ → ℕ → M .Element) (e : (i j : ℕ) → i < r → j < c → h (f i j) ≡ g i j) where
+    -- products of r lines of c entries are kept
+    lines-bridge : (x : List (K .Element)) → map h (applyTo K r c f x) ≡ applyTo M r c g (map h x)
+    lines-bridge x =
+        map-tabulate h r _
+        ∙ tabulate-cong r _ _ (λ i l. sum-bridge c _ _ (λ j m. H .keeps-times (f i j) (getD x j (K .null)) ∙ ap₂ (M .times) (e i j l m) (getD-bridge x j)))
+
+    some-bridge : (xs : List (List (K .Element))) → someToZero M c r g (map (map h) xs) ≡ someToZero K c r f xs
+    unfolding someToZero
+    some-bridge [] = refl
+    some-bridge (x ∷ xs) =
+        ap₂ _||_ (ap₂ (λ (v w : ℕ). ltb 0 v && eqb w 0) (weight-bridge x) (ap (weight M) (sym (lines-bridge x)) ∙ weight-bridge (applyTo K r c f x)))
+        (some-bridge xs)
+
+    -- kernels are kept
+    pub hasKernel-bridge : (elements : List (K .Element)) → hasKernel M (map h elements) c r g ≡ hasKernel K elements c r f
+    unfolding hasKernel
+    hasKernel-bridge elements = ap (someToZero M c r g) (sym (map-words h elements c)) ∙ some-bridge (words elements c)
+
   module _ (n : ℕ) (f : ℕ → ℕ → K .Element) (g : ℕ → ℕ → M .Element) (e : (i j : ℕ) → i < n → j < n → h (f i j) ≡ g i j) where
     -- products are kept
     pub apply-bridge : (x : List (K .Element)) → map h (apply K n f x) ≡ apply M n g (map h x)
     unfolding apply
-    apply-bridge x =
-        map-tabulate h n _
-        ∙ tabulate-cong n _ _ (λ i l. sum-bridge n _ _ (λ j m. H .keeps-times (f i j) (getD x j (K .null)) ∙ ap₂ (M .times) (e i j l m) (getD-bridge x j)))
+    apply-bridge = lines-bridge n n f g e
 
     -- activities are kept
     pub activity-bridge : (x : List (K .Element)) → activity M n g (map h x) ≡ activity K n f x
@@ -141,6 +160,12 @@ module _ (K M : Operations) (h : K .Element → M .Element) (H : Homomorphism K 
 pub identity-keeps : (K : Operations) → Homomorphism K K (λ a. a)
 identity-keeps K =
     record { keeps-null = refl; keeps-one = refl; keeps-plus = λ a b. refl; keeps-times = λ a b. refl; keeps-isNull = λ a. refl }
+
+-- the kernel
+pub hasKernel-cong : (K : Operations) (elements : List (K .Element)) (c r : ℕ) (f g : ℕ → ℕ → K .Element)
+    → ((i j : ℕ) → i < r → j < c → f i j ≡ g i j) → hasKernel K elements c r f ≡ hasKernel K elements c r g
+hasKernel-cong K elements c r f g e =
+    sym (hasKernel-bridge K K (λ a. a) (identity-keeps K) c r f g e elements) ∙ ap (λ l. hasKernel K l c r g) (map-id elements)
 
 module _ (K : Operations) (n : ℕ) (f g : ℕ → ℕ → K .Element) (e : (i j : ℕ) → i < n → j < n → f i j ≡ g i j) where
   -- the determinant

@@ -6,8 +6,11 @@ use Prim.Native.Nat.{ℕ, zero, suc, _+_, _*_, _/_, _%_, _^_, _≤_, _<_}
 use native.Mathlib.Nat.{not-suc-le-zero, le-of-suc-le-suc, suc-inj, suc-ne-zero, add-zero, pow-suc}
 use native.Mathlib.Omega.{arith}
 use lib.ListN.{length, getD}
-use Rattle.algebra.specs.Operations.{Operations, Field}
-use Rattle.algebra.specs.Matrix.{weight, placesFrom, chosen, atDigit, oneUnless}
+use Rattle.algebra.specs.Operations.{Operations}
+use Rattle.algebra.proofs.FieldLaws.{Field}
+use Rattle.algebra.specs.Matrix.{weight}
+use Rattle.algebra.specs.Steps.{placesFrom, chosen, atDigit}
+use Rattle.algebra.proofs.Words.{oneUnless}
 use Rattle.algebra.proofs.Laws.{times-null, null-plus}
 use Rattle.algebra.proofs.Rectangles.{dot, weight-null, weight-cons-le}
 use Rattle.algebra.proofs.Weights.{weight-le}

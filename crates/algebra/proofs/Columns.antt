@@ -8,7 +8,8 @@ use Prim.Native.Nat.{ℕ, zero, suc}
 use native.Mathlib.Nat.{suc-inj, suc-ne-zero}
 use native.Mathlib.Omega.{arith}
 use lib.ListN.{length, getD}
-use Rattle.algebra.specs.Operations.{Operations, Field}
+use Rattle.algebra.specs.Operations.{Operations}
+use Rattle.algebra.proofs.FieldLaws.{Field}
 use Rattle.algebra.specs.Matrix.{tabulate, sum, weight, skip, without, det}
 use Rattle.algebra.proofs.Laws.{ring, sums, plus-comm, plus-null, plus-left-comm, times-comm, twice, join-left, join-right, isNull-times}
 use Rattle.algebra.proofs.Rectangles.{dot}

@@ -10,7 +10,8 @@ use native.Mathlib.Omega.{arith}
 use lib.Bits.{bitXor, xor-comm, xor-zero-r, xor-lt}
 use lib.ListN.{getD}
 use lib.Pow.{pow-pos}
-use Rattle.algebra.specs.Operations.{Operations, Field}
+use Rattle.algebra.specs.Operations.{Operations}
+use Rattle.algebra.proofs.FieldLaws.{Field}
 use Rattle.algebra.specs.Matrix.{sum, apply, hadamard, weight, activity, isMds, isInvolution}
 use Rattle.algebra.proofs.Sums.{additive, delta, delta-same, delta-other, sum-cong, sum-permuted, sum-paired, square-sum, square-one}
 use Rattle.algebra.proofs.Weights.{length-apply, unit, length-unit, getD-unit, weight-unit, getD-apply-unit, added, length-added, getD-added, getD-apply-added, weight-added, weight-one, weight-null, weight-nulls}

@@ -5,7 +5,8 @@ use mathlib.Core.List.{List, _++_}
 use Prim.Native.Nat.{ℕ, _+_, _^_, _<_}
 use lib.Bits.{bitXor, xor-lt}
 use lib.ListN.{getD}
-use Rattle.algebra.specs.Operations.{Operations, Field}
+use Rattle.algebra.specs.Operations.{Operations}
+use Rattle.algebra.proofs.FieldLaws.{Field}
 use Rattle.algebra.specs.Matrix.{tabulate, sum, apply, hadamard}
 use Rattle.algebra.proofs.Words.{tabulate-add, tabulate-cong}
 use Rattle.algebra.proofs.Sums.{Additive, additive, sum-cong, sum-plus, sum-add, plus-times}

@@ -8,7 +8,8 @@ use Prim.Native.Nat.{ℕ, suc, _+_, _≤_, _<_}
 use native.Mathlib.Nat.{eq-zero-or-pos}
 use native.Mathlib.Omega.{arith}
 use lib.ListN.{length, getD}
-use Rattle.algebra.specs.Operations.{Operations, Field}
+use Rattle.algebra.specs.Operations.{Operations}
+use Rattle.algebra.proofs.FieldLaws.{Field}
 use Rattle.algebra.specs.Matrix.{words, sum, apply, weight, activity, sameWords, givesBack, isInvolution}
 use Rattle.algebra.proofs.Words.{getD-tabulate, tabulate-of, words-all, words-only, tabulate-cong}
 use Rattle.algebra.proofs.Sums.{additive, delta, delta-same, delta-other, sum-cong, sum-null, sum-swap, sum-place, times-null, null-times, equal-of-sum, times-sum, sum-times, le-or-lt}

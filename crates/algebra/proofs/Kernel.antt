@@ -1,55 +1,28 @@
 -- Whether a matrix sends an input that is not zero to zero: by elimination, and by the determinant.
-use mathlib.Core.Path.{_≡_, refl, sym, ap, ap₂, _∙_, subst}
-use mathlib.Core.Bool.{Bool, true, false, cond, not, false≢true}
-use mathlib.Core.Logic.{_⊎_, inl, inr, ⊎-elim, dite}
-use mathlib.Core.List.{List, [], _∷_, map}
+use mathlib.Core.Path.{_≡_, refl, sym, ap, ap₂, _∙_}
+use mathlib.Core.Bool.{Bool, true, false, _&&_, _||_, or-true, false≢true}
+use mathlib.Core.Logic.{_⊎_, inl, inr, ⊎-elim}
+use mathlib.Core.List.{List, [], _∷_, map, List·Memᴰ, List·Memᴰ·head, List·Memᴰ·tail, List·Memᴰ·cases-cons, List·Memᴰ·not-nil}
 use Prim.Native.Nat.{ℕ, zero, suc, _-_, _≤_, _<_}
-use native.Mathlib.Nat.{not-suc-le-zero, le-of-suc-le-suc, suc-inj, suc-ne-zero, eq-zero-or-pos, le-antisymm, lt-irrefl, lt-of-not-le, eq-or-lt-of-le}
-use native.Mathlib.Decide.{decLe}
+use native.Mathlib.Nat.{not-suc-le-zero, le-of-suc-le-suc, suc-inj, suc-ne-zero, eq-zero-or-pos, lt-irrefl, eq-or-lt-of-le}
 use native.Mathlib.Omega.{arith}
 use lib.ListN.{length, replicate, length-map, length-replicate}
-use lib.Dec.{ltb, T, lt→ltb}
-use lib.Arith.{le→nltb}
-use Rattle.algebra.specs.Operations.{Operations, Field}
-use Rattle.algebra.specs.Matrix.{tabulate, weight, apply, skip, without, det}
-use Rattle.algebra.proofs.Bridge.{Homomorphism, identity-keeps}
+use lib.Dec.{eqb, ltb}
+use borrow.Author.Tests.{ltb-true, lt-ltb, eqb-true, eq-eqb}
+use Rattle.algebra.specs.Operations.{Operations}
+use Rattle.algebra.proofs.FieldLaws.{Field}
+use Rattle.algebra.specs.Matrix.{tabulate, words, apply, applyTo, skip, det, weight}
+use Rattle.algebra.specs.Steps.{someToZero, hasKernel, cleared}
+use Rattle.algebra.proofs.Bridge.{Homomorphism}
 use Rattle.algebra.proofs.Laws.{ring, equal-of-null, plus-comm, times-null-only}
-use Rattle.algebra.proofs.Rectangles.{dot, applyTo, Kernel, dot-linear, dot-scaled, dot-weightless, weight-nulls, weight-scaled}
+use Rattle.algebra.proofs.Rectangles.{dot, Kernel, dot-linear, dot-scaled, dot-weightless, weight-nulls, weight-scaled}
 use Rattle.algebra.proofs.Columns.{Columns, tail, detOf, line, Inserted, length-inserted, minor, minors, line-minors, find, moved, det-clear, det-columns}
 use Rattle.algebra.proofs.Columns.{det-alternating, expand-heads, to-front, from-front}
 use Rattle.algebra.proofs.Rectangles.{dot-null-line}
-use Rattle.algebra.proofs.Words.{getD-tabulate, length-tabulate}
+use Rattle.algebra.proofs.Words.{getD-tabulate, length-tabulate, words-all, words-only}
+use Rattle.algebra.proofs.Symmetry.{same-bool}
 use Rattle.algebra.proofs.Weights.{weight-le}
 use Rattle.algebra.proofs.Rectangles.{weight-replicate, weight-other, kernel-cong, kernel-of, of-kernel}
-
--- ---- elimination without division
-
-module _ (K : Operations) where
-  infixl 70 _⊕_
-  infixl 75 _⊗_
-  open Operations K using (Element as E, null, isNull, plus as _⊕_, times as _⊗_)
-
-  -- the first i below r where u i is not null, and r where there is none
-  unfoldable pub firstLine : ℕ → (ℕ → E) → ℕ
-  firstLine zero u = zero
-  firstLine (suc r) u = cond (isNull (u 0)) (suc (firstLine r (λ i. u (suc i)))) zero
-
-  -- the block left after column 0 is cleared by line p: line p and column 0 taken out, and with v for line p and u for
-  -- another line, entry j is v 0 times u (j + 1) plus u 0 times v (j + 1)
-  unfoldable pub cleared : (ℕ → ℕ → E) → ℕ → ℕ → ℕ → E
-  cleared f p i j = f p 0 ⊗ f (skip p i) (suc j) ⊕ f (skip p i) 0 ⊗ f p (suc j)
-
-  -- whether c columns and r lines send an input that is not zero to zero
-  unfoldable pub hasKernel : ℕ → ℕ → (ℕ → ℕ → E) → Bool
-  hasKernel zero r f = false
-  hasKernel (suc c) r f =
-      cond (ltb (firstLine r (λ i. f i 0)) r) (hasKernel c (r - 1) (cleared f (firstLine r (λ i. f i 0)))) true
-
--- p is the first place below r where u is not null, or r
-pub record First (K : Operations) (r : ℕ) (u : ℕ → K .Element) (p : ℕ) : Type 0 where
-  pub fits : p ≤ r
-  pub before : (i : ℕ) → i < p → K .isNull (u i) ≡ true
-  pub there : p < r → K .isNull (u p) ≡ false
 
 -- ---- taking a place out
 
@@ -74,92 +47,10 @@ skip-onto (suc p) (suc i) (suc r) l m =
 less : (n : ℕ) → suc n - 1 ≡ n
 less n = omega arith
 
--- the test of the elimination: there is a line
-when-below : {A : Type 0} (p r : ℕ) (x y : A) → p < r → cond (ltb p r) x y ≡ x
-when-below p r x y l = at (ltb p r) (lt→ltb p r l)
-  where
-    at : (b : Bool) → T b → cond b x y ≡ x
-    at true t = refl
-    at false t = absurd t
-
--- its other outcome
-unless-below : {A : Type 0} (p r : ℕ) (x y : A) → r ≤ p → cond (ltb p r) x y ≡ y
-unless-below p r x y l = at (ltb p r) (le→nltb p r l)
-  where
-    at : (b : Bool) → T (not b) → cond b x y ≡ y
-    at true t = absurd t
-    at false t = refl
-
--- ---- what needs no law of the field
-
-module _ (K : Operations) where
-  infixl 70 _⊕_
-  infixl 75 _⊗_
-  open Operations K using (Element as E, isNull, plus as _⊕_, times as _⊗_)
-
-  -- what is found is a first place
-  pub firstLine-first : (r : ℕ) (u : ℕ → E) → First K r u (firstLine K r u)
-  unfolding firstLine
-  firstLine-first zero u = record { fits = omega arith; before = λ i l. absurd (not-suc-le-zero l); there = λ l. absurd (not-suc-le-zero l) }
-  firstLine-first (suc r) u = at (isNull (u 0)) refl (firstLine K r (λ i. u (suc i))) (firstLine-first r (λ i. u (suc i)))
-    where
-      early : isNull (u 0) ≡ true → (q : ℕ) → First K r (λ i. u (suc i)) q → (i : ℕ) → i < suc q → isNull (u i) ≡ true
-      early e q h zero l = e
-      early e q h (suc i) l = h .before i (le-of-suc-le-suc l)
-
-      at : (b : Bool) → isNull (u 0) ≡ b → (q : ℕ) → First K r (λ i. u (suc i)) q → First K (suc r) u (cond b (suc q) zero)
-      at true e q h = record { fits = omega arith; before = early e q h; there = λ l. h .there (le-of-suc-le-suc l) }
-      at false e q h = record { fits = omega arith; before = λ i l. absurd (not-suc-le-zero l); there = λ l. e }
-
-  -- there is only one
-  first-below : (r : ℕ) (u : ℕ → E) (p q : ℕ) → First K r u p → First K r u q → q ≤ p
-  first-below r u p q f g = dite (decLe q p) (λ h. h) (λ h. absurd (clash (lt-of-not-le h)))
-    where
-      clash : p < q → ⊥
-      clash l = false≢true (sym (f .there (omega (arith, g .fits))) ∙ g .before p l)
-
-  -- so a first place, however it was found, is the one of the elimination
-  pub firstLine-is : (r : ℕ) (u : ℕ → E) (p : ℕ) → First K r u p → firstLine K r u ≡ p
-  firstLine-is r u p f = le-antisymm (first-below r u p (firstLine K r u) f (firstLine-first r u)) (first-below r u (firstLine K r u) p (firstLine-first r u) f)
-
-  -- there is no such place below r, or there is one
-  first : (r : ℕ) (u : ℕ → E) → First K r u r ⊎ ((p : ℕ) × First K r u p × (p < r))
-  first r u = at (eq-or-lt-of-le (firstLine-first r u .fits))
-    where
-      at : (firstLine K r u ≡ r) ⊎ (firstLine K r u < r) → First K r u r ⊎ ((p : ℕ) × First K r u p × (p < r))
-      at (inl e) = inl (subst (λ p. First K r u p) e (firstLine-first r u))
-      at (inr l) = inr (firstLine K r u, firstLine-first r u, l)
-
-  -- one step of the elimination: there is no line to clear with
-  pub hasKernel-none : (c r : ℕ) (f : ℕ → ℕ → E) → First K r (λ i. f i 0) r → hasKernel K (suc c) r f ≡ true
-  unfolding hasKernel
-  hasKernel-none c r f g =
-      rw (firstLine-is r (λ i. f i 0) r g) (unless-below r r (hasKernel K c (r - 1) (cleared K f r)) true (omega arith))
-
-  -- it is line p
-  pub hasKernel-step : (c r : ℕ) (f : ℕ → ℕ → E) (p : ℕ) → First K r (λ i. f i 0) p → p < r
-      → hasKernel K (suc c) r f ≡ hasKernel K c (r - 1) (cleared K f p)
-  unfolding hasKernel
-  hasKernel-step c r f p g l = rw (firstLine-is r (λ i. f i 0) p g) (when-below p r (hasKernel K c (r - 1) (cleared K f p)) true l)
-
--- ---- a map that keeps the operations keeps the answer of the elimination
+-- ---- a map that keeps the operations keeps the block that one step of the elimination leaves
 
 module _ (K M : Operations) (h : K .Element → M .Element) (H : Homomorphism K M h) where
-  -- a first place stays one
-  pub first-bridge : (r : ℕ) (u : ℕ → K .Element) (v : ℕ → M .Element) (p : ℕ) → ((i : ℕ) → i < r → h (u i) ≡ v i)
-      → First K r u p → First M r v p
-  first-bridge r u v p e f =
-      record {
-        fits = f .fits;
-        before = λ i l. null i (omega (arith, f .fits)) ∙ f .before i l;
-        there = λ l. null p l ∙ f .there l;
-      }
-    where
-      null : (i : ℕ) → i < r → M .isNull (v i) ≡ K .isNull (u i)
-      null i l = ap (M .isNull) (sym (e i l)) ∙ H .keeps-isNull (u i)
-
-  -- the block that one step leaves is kept
-  cleared-bridge : (r c : ℕ) (f : ℕ → ℕ → K .Element) (g : ℕ → ℕ → M .Element) (p : ℕ) → p < r
+  pub cleared-bridge : (r c : ℕ) (f : ℕ → ℕ → K .Element) (g : ℕ → ℕ → M .Element) (p : ℕ) → p < r
       → ((i j : ℕ) → i < r → j < suc c → h (f i j) ≡ g i j)
       → (i j : ℕ) → i < r - 1 → j < c → h (cleared K f p i j) ≡ cleared M g p i j
   unfolding cleared
@@ -170,41 +61,46 @@ module _ (K M : Operations) (h : K .Element → M .Element) (H : Homomorphism K 
       (H .keeps-times _ _ ∙ ap₂ (M .times) (e p 0 l (omega arith)) (e (skip p i) (suc j) k (omega arith)))
       (H .keeps-times _ _ ∙ ap₂ (M .times) (e (skip p i) 0 k (omega arith)) (e p (suc j) l (omega arith)))
 
-  -- and so is the answer
-  pub hasKernel-bridge : (c r : ℕ) (f : ℕ → ℕ → K .Element) (g : ℕ → ℕ → M .Element)
-      → ((i j : ℕ) → i < r → j < c → h (f i j) ≡ g i j) → hasKernel M c r g ≡ hasKernel K c r f
-  unfolding hasKernel
-  hasKernel-bridge zero r f g e = refl
-  hasKernel-bridge (suc c) r f g e =
+-- ---- the list of inputs
+
+-- without columns there is only the input of no words
+pub hasKernel-empty : (K : Operations) (elements : List (K .Element)) (r : ℕ) (f : ℕ → ℕ → K .Element) → hasKernel K elements 0 r f ≡ false
+unfolding hasKernel someToZero words weight
+hasKernel-empty K elements r f = refl
+
+module _ (K : Operations) (c r : ℕ) (f : ℕ → ℕ → K .Element) where
+  -- one of them goes to zero
+  some-at : (xs : List (List (K .Element))) (x : List (K .Element)) → List·Memᴰ x xs → 0 < weight K x → weight K (applyTo K r c f x) ≡ 0
+      → someToZero K c r f xs ≡ true
+  unfolding someToZero
+  some-at [] x m h z = absurd (List·Memᴰ·not-nil m)
+  some-at (y ∷ ys) x m h z =
+      let later : List·Memᴰ x ys → someToZero K c r f ys ≡ true = λ t. some-at ys x t h z in
       ⊎-elim
-      (λ n. hasKernel-none M c r g (first-bridge r (λ i. f i 0) (λ i. g i 0) r column n) ∙ sym (hasKernel-none K c r f n))
-      (λ w.
-      hasKernel-step M c r g (w .0) (first-bridge r (λ i. f i 0) (λ i. g i 0) (w .0) column (w .1)) (w .2)
-      ∙ hasKernel-bridge c (r - 1) (cleared K f (w .0)) (cleared M g (w .0)) (cleared-bridge r c f g (w .0) (w .2) e)
-      ∙ sym (hasKernel-step K c r f (w .0) (w .1) (w .2)))
-      (first K r (λ i. f i 0))
+      (λ (e : x ≡ y). rw (← e, lt-ltb 0 (weight K x) h, eq-eqb (weight K (applyTo K r c f x)) 0 z) refl)
+      (λ t. rw (later t) (or-true (ltb 0 (weight K y) && eqb (weight K (applyTo K r c f y)) 0)))
+      (List·Memᴰ·cases-cons m)
+
+  -- the input that is found
+  some-is : (xs : List (List (K .Element))) → someToZero K c r f xs ≡ true
+      → (x : List (K .Element)) × List·Memᴰ x xs × (0 < weight K x) × (weight K (applyTo K r c f x) ≡ 0)
+  unfolding someToZero
+  some-is [] e = absurd (false≢true e)
+  some-is (y ∷ ys) e = at (ltb 0 (weight K y)) (eqb (weight K (applyTo K r c f y)) 0) refl refl e (some-is ys)
     where
-      column : (i : ℕ) → i < r → h (f i 0) ≡ g i 0
-      column i l = e i 0 l (omega arith)
+      at : (a b : Bool) → ltb 0 (weight K y) ≡ a → eqb (weight K (applyTo K r c f y)) 0 ≡ b → ((a && b) || someToZero K c r f ys) ≡ true
+          → (someToZero K c r f ys ≡ true → (x : List (K .Element)) × List·Memᴰ x ys × (0 < weight K x) × (weight K (applyTo K r c f x) ≡ 0))
+          → (x : List (K .Element)) × List·Memᴰ x (y ∷ ys) × (0 < weight K x) × (weight K (applyTo K r c f x) ≡ 0)
+      at true true p q t rest = (y, List·Memᴰ·head refl, ltb-true 0 (weight K y) p, eqb-true (weight K (applyTo K r c f y)) 0 q)
+      at true false p q t rest = let w = rest t in (w .0, List·Memᴰ·tail (w .1), w .2, w .3)
+      at false b p q t rest = let w = rest t in (w .0, List·Memᴰ·tail (w .1), w .2, w .3)
 
--- a first place depends on nothing from r on
-pub first-cong : (K : Operations) (r : ℕ) (u v : ℕ → K .Element) (p : ℕ) → ((i : ℕ) → i < r → u i ≡ v i)
-    → First K r u p → First K r v p
-first-cong K = first-bridge K K (λ a. a) (identity-keeps K)
-
--- the elimination depends on nothing but the lines below r and the columns below c
-pub hasKernel-cong : (K : Operations) (c r : ℕ) (f g : ℕ → ℕ → K .Element) → ((i j : ℕ) → i < r → j < c → f i j ≡ g i j)
-    → hasKernel K c r f ≡ hasKernel K c r g
-hasKernel-cong K c r f g e = sym (hasKernel-bridge K K (λ a. a) (identity-keeps K) c r f g e)
-
--- ---- the laws of the elimination
+-- ---- one step of the elimination
 
 module _ (K : Operations) (L : Field K) where
   infixl 70 _⊕_
   infixl 75 _⊗_
   open Operations K using (Element as E, null, one, isNull, plus as _⊕_, times as _⊗_)
-
-  -- ---- one step of the elimination keeps what is asked
 
   -- the input left without word 0 is not zero, and goes to zero
   pub clear : (r c : ℕ) (f : ℕ → ℕ → E) (p : ℕ) → p < r → isNull (f p 0) ≡ false → Kernel K r (suc c) f → Kernel K (r - 1) c (cleared K f p)
@@ -266,8 +162,6 @@ module _ (K : Operations) (L : Field K) where
           ∙ sym (dot-linear K L (f p 0) (f (skip p j) 0) (λ j′. f (skip p j) (suc j′)) (λ j′. f p (suc j′)) z)
           ∙ k .zeros j m)
 
-  -- ---- elimination decides
-
   -- where no line has an entry in column 0, the input 1, 0, .. 0 goes to zero
   pub kernel-null : (r c : ℕ) (f : ℕ → ℕ → E) → ((i : ℕ) → i < r → f i 0 ≡ null) → Kernel K r (suc c) f
   kernel-null r c f h =
@@ -279,55 +173,48 @@ module _ (K : Operations) (L : Field K) where
             ap₂ (λ a b. a ⊗ one ⊕ b) (h i l) (dot-weightless K L (λ j. f i (suc j)) (replicate c null) (weight-replicate K L c)) ∙ simp (ring, L);
       }
 
-  -- where the elimination says so, there is such an input
-  pub has-to : (c r : ℕ) (f : ℕ → ℕ → E) → hasKernel K c r f ≡ true → Kernel K r c f
-  unfolding hasKernel
-  has-to zero r f h = absurd (false≢true h)
-  has-to (suc c) r f h =
-      ⊎-elim
-      (λ n. kernel-null r c f (λ i l. L .is-null (f i 0) (n .before i l)))
-      (λ w.
-      unclear r c f (w .0) (w .2) (w .1 .there (w .2))
-      (has-to c (r - 1) (cleared K f (w .0)) (sym (hasKernel-step K c r f (w .0) (w .1) (w .2)) ∙ h)))
-      (first K r (λ i. f i 0))
+  -- every entry of a column is null, or some entry is not
+  pivot : (r : ℕ) (u : ℕ → E) → ((i : ℕ) → i < r → u i ≡ null) ⊎ ((p : ℕ) × (p < r) × (isNull (u p) ≡ false))
+  pivot zero u = inl (λ i l. absurd (not-suc-le-zero l))
+  pivot (suc r) u = at (isNull (u r)) refl (pivot r u)
+    where
+      at : (b : Bool) → isNull (u r) ≡ b → ((i : ℕ) → i < r → u i ≡ null) ⊎ ((p : ℕ) × (p < r) × (isNull (u p) ≡ false))
+          → ((i : ℕ) → i < suc r → u i ≡ null) ⊎ ((p : ℕ) × (p < suc r) × (isNull (u p) ≡ false))
+      at false e w = inr (r, omega arith, e)
+      at true e (inl h) = inl (λ i l. ⊎-elim (λ (q : i ≡ r). rw q (L .is-null (u r) e)) (h i) (eq-or-lt-of-le (le-of-suc-le-suc l)))
+      at true e (inr w) = inr (w .0, omega (arith, w .1), w .2)
 
-  -- and where there is one, the elimination says so
-  pub has-from : (c r : ℕ) (f : ℕ → ℕ → E) → Kernel K r c f → hasKernel K c r f ≡ true
-  has-from zero r f k = absurd (lt-irrefl 0 (omega (arith, k .heavy, k .size, weight-le K (k .input))))
-  has-from (suc c) r f k =
-      ⊎-elim
-      (λ n. hasKernel-none K c r f n)
-      (λ w.
-      hasKernel-step K c r f (w .0) (w .1) (w .2)
-      ∙ has-from c (r - 1) (cleared K f (w .0)) (clear r c f (w .0) (w .2) (w .1 .there (w .2)) k))
-      (first K r (λ i. f i 0))
+  -- more columns than lines always have a kernel
+  wide : (c r : ℕ) (f : ℕ → ℕ → E) → r < c → Kernel K r c f
+  wide zero r f l = absurd (not-suc-le-zero l)
+  wide (suc c) r f l =
+      ⊎-elim (kernel-null r c f) (λ w. unclear r c f (w .0) (w .1) (w .2) (wide c (r - 1) (cleared K f (w .0)) (omega (arith, w .1)))) (pivot r (λ i. f i 0))
 
-  -- more columns than lines always have one
-  has-wide : (c r : ℕ) (f : ℕ → ℕ → E) → r < c → hasKernel K c r f ≡ true
-  has-wide zero r f l = absurd (not-suc-le-zero l)
-  has-wide (suc c) r f l =
-      ⊎-elim
-      (λ n. hasKernel-none K c r f n)
-      (λ w. hasKernel-step K c r f (w .0) (w .1) (w .2) ∙ has-wide c (r - 1) (cleared K f (w .0)) (omega (arith, w .2)))
-      (first K r (λ i. f i 0))
+  -- ---- the same in the words of the definitions
 
-  -- the same in the words of the definitions: elimination decides whether an input that is not zero goes to zero
-  pub kernel-to : (c r : ℕ) (f : ℕ → ℕ → E) → hasKernel K c r f ≡ true
-      → (x : List E) × (length x ≡ c) × (0 < weight K x) × (weight K (applyTo K r c f x) ≡ 0)
-  kernel-to c r f h =
-      let k = has-to c r f h in
-      (k .input, k .size, k .heavy, of-kernel K L r c f k)
+  module _ (elements : List E) (complete : (a : E) → List·Memᴰ a elements) where
+    -- the list of all inputs has one that goes to zero exactly if there is one
+    pub has-to : (c r : ℕ) (f : ℕ → ℕ → E) → hasKernel K elements c r f ≡ true → Kernel K r c f
+    unfolding hasKernel
+    has-to c r f h =
+        let w = some-is K c r f (words elements c) h in
+        kernel-of K L r c f (w .0) (words-only elements c (w .0) (w .1) .0) (w .2) (w .3)
 
-  -- the other direction
-  pub kernel-from : (c r : ℕ) (f : ℕ → ℕ → E) (x : List E) → length x ≡ c → 0 < weight K x → weight K (applyTo K r c f x) ≡ 0
-      → hasKernel K c r f ≡ true
-  kernel-from c r f x e h z = has-from c r f (kernel-of K L r c f x e h z)
+    pub has-from : (c r : ℕ) (f : ℕ → ℕ → E) → Kernel K r c f → hasKernel K elements c r f ≡ true
+    unfolding hasKernel
+    has-from c r f k =
+        some-at K c r f (words elements c) (k .input) (words-all elements c (k .input) (k .size) (λ a m. complete a)) (k .heavy) (of-kernel K L r c f k)
 
-  -- where the elimination says no, every input that is not zero goes to one that is not zero
-  pub kernel-none : (c r : ℕ) (f : ℕ → ℕ → E) → hasKernel K c r f ≡ false
-      → (x : List E) → length x ≡ c → 0 < weight K x → 0 < weight K (applyTo K r c f x)
-  kernel-none c r f n x e h =
-      ⊎-elim (λ z. absurd (false≢true (sym n ∙ kernel-from c r f x e h z))) (λ l. l) (eq-zero-or-pos (weight K (applyTo K r c f x)))
+    -- elimination: no line has an entry in column 0
+    pub hasKernel-free : (c r : ℕ) (f : ℕ → ℕ → E) → ((i : ℕ) → i < r → f i 0 ≡ null) → hasKernel K elements (suc c) r f ≡ true
+    hasKernel-free c r f h = has-from (suc c) r f (kernel-null r c f h)
+
+    -- line p has one, and clears the others
+    pub hasKernel-step : (c r : ℕ) (f : ℕ → ℕ → E) (p : ℕ) → p < r → isNull (f p 0) ≡ false
+        → hasKernel K elements (suc c) r f ≡ hasKernel K elements c (r - 1) (cleared K f p)
+    hasKernel-step c r f p l h =
+        same-bool _ _ (λ t. has-from c (r - 1) (cleared K f p) (clear r c f p l h (has-to (suc c) r f t)))
+        (λ t. has-from (suc c) r f (unclear r c f p l h (has-to c (r - 1) (cleared K f p) t)))
 
   -- ---- the determinant decides for a square
 
@@ -387,15 +274,15 @@ module _ (K : Operations) (L : Field K) where
   columns-to zero (c ∷ cs) e h = absurd (suc-ne-zero (length cs) e)
   columns-to (suc n) cs e h = ⊎-elim null-line (λ w. pivot w (columns-to n (minors K (w .0) (w .1)))) (find K L cs)
     where
-      wide : Kernel K n (suc n) (λ i. line K cs (suc i))
-      wide = has-to (suc n) n (λ i. line K cs (suc i)) (has-wide (suc n) n (λ i. line K cs (suc i)) (omega arith))
+      rest : Kernel K n (suc n) (λ i. line K cs (suc i))
+      rest = wide (suc n) n (λ i. line K cs (suc i)) (omega arith)
 
-      all : ((j : ℕ) → line K cs 0 j ≡ null) → (i : ℕ) → i < suc n → dot K (line K cs i) (wide .input) ≡ null
-      all g zero l = dot-null-line K L (line K cs 0) (wide .input) g
-      all g (suc i) l = wide .zeros i (le-of-suc-le-suc l)
+      all : ((j : ℕ) → line K cs 0 j ≡ null) → (i : ℕ) → i < suc n → dot K (line K cs i) (rest .input) ≡ null
+      all g zero l = dot-null-line K L (line K cs 0) (rest .input) g
+      all g (suc i) l = rest .zeros i (le-of-suc-le-suc l)
 
       null-line : ((j : ℕ) → line K cs 0 j ≡ null) → Kernel K (suc n) (suc n) (line K cs)
-      null-line g = record { input = wide .input; size = wide .size; heavy = wide .heavy; zeros = all g }
+      null-line g = record { input = rest .input; size = rest .size; heavy = rest .heavy; zeros = all g }
 
       pivot : (w : (v : ℕ → E) × (us : Columns K) × Inserted v us cs × (isNull (v 0) ≡ false))
           → (length (minors K (w .0) (w .1)) ≡ n → isNull (detOf K n (minors K (w .0) (w .1))) ≡ true
@@ -436,7 +323,7 @@ module _ (K : Operations) (L : Field K) where
   -- the same in the words of the definitions: the determinant is null exactly if an input that is not zero goes to zero
   pub det-kernel-to : (n : ℕ) (f : ℕ → ℕ → E) → isNull (det K n f) ≡ true
       → (x : List E) × (length x ≡ n) × (0 < weight K x) × (weight K (apply K n f x) ≡ 0)
-  unfolding apply applyTo
+  unfolding apply
   det-kernel-to n f h =
       let k = det-to n f h in
       (k .input, k .size, k .heavy, of-kernel K L n n f k)
@@ -444,5 +331,5 @@ module _ (K : Operations) (L : Field K) where
   -- the other direction
   pub det-kernel-from : (n : ℕ) (f : ℕ → ℕ → E) (x : List E) → length x ≡ n → 0 < weight K x → weight K (apply K n f x) ≡ 0
       → isNull (det K n f) ≡ true
-  unfolding apply applyTo
+  unfolding apply
   det-kernel-from n f x e h z = det-from n f (kernel-of K L n n f x e h z)

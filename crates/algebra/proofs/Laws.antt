@@ -2,7 +2,8 @@
 -- The operations are opened fields of `K`: under names of another kind `simp` would sort sums in another order.
 use mathlib.Core.Path.{_≡_, refl, sym, ap, _∙_}
 use mathlib.Core.Bool.{Bool, true, false, false≢true}
-use Rattle.algebra.specs.Operations.{Operations, Field}
+use Rattle.algebra.specs.Operations.{Operations}
+use Rattle.algebra.proofs.FieldLaws.{Field}
 
 module _ (K : Operations) (L : Field K) where
   infixl 70 _⊕_

@@ -1,4 +1,5 @@
 -- Linear algebra over a field of characteristic 2: laws of the definitions in specs/, and the theorems on them.
+pub mod FieldLaws
 pub mod Words
 pub mod Sums
 pub mod Weights

@@ -3,14 +3,15 @@ use mathlib.Core.Path.{_≡_, refl, sym, ap, ap₂, _∙_}
 use mathlib.Core.Bool.{Bool, true, false}
 use mathlib.Core.List.{List, [], _∷_, map}
 use Prim.Native.Nat.{ℕ, zero, suc, _+_, _≤_, _<_}
-use native.Mathlib.Nat.{not-suc-le-zero, le-of-suc-le-suc, suc-ne-zero, zero-add, le-trans}
+use native.Mathlib.Nat.{not-suc-le-zero, le-of-suc-le-suc, suc-ne-zero, zero-add}
 use native.Mathlib.Omega.{arith}
 use lib.ListN.{length, getD, replicate}
-use Rattle.algebra.specs.Operations.{Operations, Field}
-use Rattle.algebra.specs.Matrix.{tabulate, sum, weight, oneUnless}
+use Rattle.algebra.specs.Operations.{Operations}
+use Rattle.algebra.proofs.FieldLaws.{Field}
+use Rattle.algebra.specs.Matrix.{tabulate, sum, applyTo, weight}
+use Rattle.algebra.proofs.Words.{oneUnless}
 use Rattle.algebra.proofs.Sums.{additive, sum-first}
-use Rattle.algebra.proofs.Words.{getD-tabulate, length-tabulate}
-use Rattle.algebra.proofs.Laws.{ring, plus-comm, plus-assoc, times-null, join-left, isNull-times}
+use Rattle.algebra.proofs.Laws.{ring, times-null, join-left, isNull-times}
 
 -- ---- definitions
 
@@ -23,10 +24,6 @@ module _ (K : Operations) where
   abbrev pub dot : (ℕ → E) → List E → E
   dot u [] = null
   dot u (a ∷ x) = u 0 ⊗ a ⊕ dot (λ j. u (suc j)) x
-
-  -- the product of r lines and c columns with an input; with r and c the order, the product of the matrix
-  unfoldable pub applyTo : ℕ → ℕ → (ℕ → ℕ → E) → List E → List E
-  applyTo r c f x = tabulate r (λ i. sum K c (λ j. f i j ⊗ getD x j null))
 
 -- an input of c words, not all zero, that r lines send to zero
 pub record Kernel (K : Operations) (r c : ℕ) (f : ℕ → ℕ → K .Element) : Type 0 where
@@ -149,13 +146,11 @@ module _ (K : Operations) (L : Field K) where
 
   -- an input that goes to weight 0 is a kernel
   pub kernel-of : (r c : ℕ) (f : ℕ → ℕ → E) (x : List E) → length x ≡ c → 0 < weight K x → weight K (applyTo K r c f x) ≡ 0 → Kernel K r c f
-  unfolding applyTo
   kernel-of r c f x e h z =
       record { input = x; size = e; heavy = h; zeros = λ i l. sym (sum-word c (f i) x e) ∙ tabulate-weightless r (λ k. sum K c (λ j. f k j ⊗ getD x j null)) z i l }
 
   -- and a kernel goes to weight 0
   pub of-kernel : (r c : ℕ) (f : ℕ → ℕ → E) (k : Kernel K r c f) → weight K (applyTo K r c f (k .input)) ≡ 0
-  unfolding applyTo
   of-kernel r c f k =
       weight-tabulate r (λ i. sum K c (λ j. f i j ⊗ getD (k .input) j null)) (λ i l. sum-word c (f i) (k .input) (k .size) ∙ k .zeros i l)
 

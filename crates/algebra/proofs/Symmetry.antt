@@ -11,7 +11,8 @@ use lib.Bits.{bitXor, xor-comm, xor-lt}
 use lib.Dec.{eqb}
 use lib.ListN.{length, getD}
 use lib.Pow.{pow-pos}
-use Rattle.algebra.specs.Operations.{Operations, Field}
+use Rattle.algebra.specs.Operations.{Operations}
+use Rattle.algebra.proofs.FieldLaws.{Field}
 use Rattle.algebra.specs.Matrix.{tabulate, sum, apply, hadamard, weight, activity, branchNumber, isMds, isInvolution}
 use Rattle.algebra.proofs.Words.{length-tabulate, getD-tabulate, tabulate-cong, tabulate-of}
 use Rattle.algebra.proofs.Sums.{additive, Naturals, naturals, Inverse, turned, composed, sum-cong, sum-permuted}

@@ -10,8 +10,10 @@ use native.Mathlib.Numerals.{add-one}
 use native.Mathlib.Decide.{ℕ-discrete}
 use native.Mathlib.Omega.{arith}
 use lib.ListN.{length, getD}
-use Rattle.algebra.specs.Operations.{Operations, Field}
-use Rattle.algebra.specs.Matrix.{tabulate, sum, apply, weight, oneUnless}
+use Rattle.algebra.specs.Operations.{Operations}
+use Rattle.algebra.proofs.FieldLaws.{Field}
+use Rattle.algebra.specs.Matrix.{tabulate, sum, apply, weight}
+use Rattle.algebra.proofs.Words.{oneUnless}
 use Rattle.algebra.proofs.Words.{length-tabulate, getD-tabulate, tabulate-cong, tabulate-getD}
 use Rattle.algebra.proofs.Sums.{additive, null-plus, Naturals, naturals, delta, delta-same, delta-other, sum-cong, sum-null, sum-plus, sum-place, sum-delta, sum-first, times-null}
 

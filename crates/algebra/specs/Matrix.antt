@@ -1,10 +1,9 @@
 -- Matrices over a field, in the words of document 01. A matrix is the function that gives its entry at line i, column j;
 -- an input is the list of its words. `K` holds the field's operations, and `elements` lists the field's elements.
 -- Assumes nothing.
-use mathlib.Core.Path.{_≡_}
-use mathlib.Core.Bool.{Bool, true, false, _&&_}
+use mathlib.Core.Bool.{Bool, true, false, cond, _&&_}
 use mathlib.Core.List.{List, [], _∷_, _++_, map}
-use Prim.Native.Nat.{ℕ, zero, suc, _+_, _/_, _%_, min}
+use Prim.Native.Nat.{ℕ, zero, suc, _+_, min}
 use lib.Bits.{bitXor}
 use lib.Dec.{eqb}
 use lib.ListN.{getD}
@@ -16,6 +15,10 @@ use Rattle.algebra.specs.Operations.{Operations}
 unfoldable pub tabulate : {A : Type 0} → ℕ → (ℕ → A) → List A
 tabulate zero f = []
 tabulate (suc n) f = f 0 ∷ tabulate n (λ i. f (suc i))
+
+-- 0, 1, .. n - 1
+unfoldable pub upTo : ℕ → List ℕ
+upTo n = tabulate n (λ i. i)
 
 -- each of the letters before each of the words, the first letter's words first
 unfoldable pub before : {A : Type 0} → List A → List (List A) → List (List A)
@@ -34,9 +37,13 @@ unfoldable pub sum : (K : Operations) → ℕ → (ℕ → K .Element) → K .El
 sum K zero f = K .null
 sum K (suc n) f = K .plus (sum K n f) (f n)
 
--- the plain product of the matrix f of order n with the input x: word i is the sum over j of entry (i, j) times word j of x
+-- the product of r lines of c entries with the input x: word i is the sum over j of entry (i, j) times word j of x
+abbrev pub applyTo : (K : Operations) → ℕ → ℕ → (ℕ → ℕ → K .Element) → List (K .Element) → List (K .Element)
+applyTo K r c f x = tabulate r (λ i. sum K c (λ j. K .times (f i j) (getD x j (K .null))))
+
+-- the plain product of the matrix f of order n with the input x
 unfoldable pub apply : (K : Operations) → ℕ → (ℕ → ℕ → K .Element) → List (K .Element) → List (K .Element)
-apply K n f x = tabulate n (λ i. sum K n (λ j. K .times (f i j) (getD x j (K .null))))
+apply K n f x = applyTo K n n f x
 
 -- the Hadamard matrix of a row: the row's element at (i exclusive or j) at line i, column j
 unfoldable pub hadamard : (K : Operations) → List (K .Element) → ℕ → ℕ → K .Element
@@ -59,34 +66,12 @@ unfoldable pub det : (K : Operations) → ℕ → (ℕ → ℕ → K .Element) �
 det K zero f = K .one
 det K (suc n) f = sum K (suc n) (λ j. K .times (f 0 j) (det K n (without f j)))
 
--- a place, where its digit is 1, before the rest
-abbrev pub atDigit : ℕ → ℕ → List ℕ → List ℕ
-atDigit zero i rest = rest
-atDigit (suc d) i rest = i ∷ rest
-
--- the places of the ones among the n lowest digits of a mask, ascending, counted from i
-unfoldable pub placesFrom : ℕ → ℕ → ℕ → List ℕ
-placesFrom i zero mask = []
-placesFrom i (suc n) mask = atDigit (mask % 2) i (placesFrom (suc i) n (mask / 2))
-
--- a choice of lines, or of columns, of a matrix of order n: the places of the ones of a mask
-unfoldable pub chosen : ℕ → ℕ → List ℕ
-chosen n mask = placesFrom 0 n mask
-
--- the block of the chosen lines and columns
-unfoldable pub block : {A : Type 0} → (ℕ → ℕ → A) → List ℕ → List ℕ → ℕ → ℕ → A
-block f lines columns i j = f (getD lines i 0) (getD columns j 0)
-
 -- ---- the branch number
-
-abbrev pub oneUnless : Bool → ℕ
-oneUnless true = 0
-oneUnless false = 1
 
 -- how many words are not zero
 unfoldable pub weight : (K : Operations) → List (K .Element) → ℕ
 weight K [] = 0
-weight K (x ∷ xs) = oneUnless (K .isNull x) + weight K xs
+weight K (x ∷ xs) = cond (K .isNull x) 0 1 + weight K xs
 
 -- nonzero words of the input plus nonzero words of the output
 unfoldable pub activity : (K : Operations) → ℕ → (ℕ → ℕ → K .Element) → List (K .Element) → ℕ

@@ -1,11 +1,12 @@
 -- Laws of what is due, and the demands by name.
-pub mod Chains
+pub mod DueFrom
 pub mod Replies
 pub mod Values
 pub mod Found
 pub mod Surveys
-pub mod Acceptance
-pub mod Shown
+pub mod EveryKind
 pub mod Demands
 pub mod DemandThree
+pub mod Acceptance
+pub mod Shown
 pub mod Lines

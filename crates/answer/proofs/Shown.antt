@@ -1,21 +1,17 @@
--- What stands at the start of the space after a call with at least 583 bytes: the answer, or the refusal's line. Assumes nothing.
-use mathlib.Core.Path.{_≡_, refl, sym, _∙_}
-use mathlib.Core.Bool.{true}
+-- What the program shows after a call with at least 583 bytes: the answer, or the refusal's line, and every byte behind it as before.
+-- Assumes nothing.
+use mathlib.Core.Path.{_≡_, refl, sym, ap, _∙_}
 use mathlib.Core.List.{List, [], _∷_, _++_}
-use Prim.Native.Nat.{ℕ, suc, _≤_}
+use Prim.Native.Nat.{ℕ, zero, suc, _≤_}
 use native.Mathlib.Omega.{arith}
 use borrow.Author.Tests.{le-leb}
-use lib.Dec.{leb}
-use lib.ListN.{length, take, drop, length-append}
-use lib.Seq.{take-at}
+use lib.ListN.{length, drop, length-append}
 use Rattle.text.specs.Text.{lineText, answerText}
 use Rattle.text.proofs.Lengths.{length-line}
-use Rattle.answer.specs.Due.{Due, lines, due}
-use Rattle.answer.specs.Answered.{Rearranged, same, more, swapped, further, writtenAt, numberAt, lengthAt, spaceAt, Answered}
-use Rattle.answer.specs.Shown.{Shown, shownText}
-use Rattle.answer.specs.Faults.{faults, lowest}
+use Rattle.answer.specs.Due.{due}
+use Rattle.answer.specs.Answered.{Rearranged, same, more, swapped, further, textOf, lengthReturned, writtenAt, Answered, Shown}
 use Rattle.answer.proofs.Acceptance.{answer-short}
-use Rattle.answer.proofs.Demands.{Told, tells, answers, due-lowest, may-rearranged}
+use Rattle.answer.proofs.Demands.{may-rearranged}
 
 -- the order of lines does not change the length
 rearranged-length : {l r : List (List ℕ)} → Rearranged l r → length (answerText l) ≡ length (answerText r)
@@ -34,39 +30,53 @@ rearranged-length (swapped {x = x} {y = y} {l = l}) =
 rearranged-length (further s t) = rearranged-length s ∙ rearranged-length t
 
 -- a text that fits stands at the start
-front : (text space : List ℕ) (n : ℕ) → length text ≤ length space → length text ≡ n → take n (writtenAt text space) ≡ text
-front text space n h e = rw (le-leb (length text) (length space) h) (take-at text (drop (length text) space) n e)
+fits-front : (text space : List ℕ) → length text ≤ length space → writtenAt text space ≡ text ++ drop (length text) space
+fits-front text space h = rw (le-leb (length text) (length space) h)
 
--- the bytes to be shown
-pub record Bytes (d : Due) (written : List (List ℕ)) (space after : List ℕ) (number size : ℕ) : Type 0 where
-  pub answer-at : number ≡ 0 → (take size after ≡ shownText d written) × (size ≤ length space)
-  pub refusal-at : (number ≡ 0 → ⊥) → take 7 after ≡ shownText d written
+-- the text that is due fits, and has as many bytes as are shown
+record ShownBytes (text shown : List ℕ) (number size : ℕ) : Type 0 where
+  few : length shown ≤ 583
+  of-answer : number ≡ 0 → size ≡ length shown
+  of-refusal : (number ≡ 0 → ⊥) → 7 ≡ length shown
 
-bytes-of : {text space after : List ℕ} {number size : ℕ} (a : Answered text space after number size) → 583 ≤ length space → Bytes (due text) (a .written) space after number size
-bytes-of {text} {space} {after} {number} {size} a h = go (due text) (lowest 1 (faults text)) refl (due-lowest text) (a .number-is) (a .size-is) (a .bytes)
-  where
-    go : (d : Due) (m : ℕ) → due text ≡ d → Told d m → number ≡ numberAt d (length space) → size ≡ lengthAt d (length space) → after ≡ spaceAt d (a .written) space
-        → Bytes d (a .written) space after number size
-    go d m f (tells k) n s b =
-        record {
-          answer-at = λ e. let z : ⊥ = omega arith in absurd z;
-          refusal-at = λ e. rw b (front (lineText (suc k ∷ [])) space 7 (omega (arith, length-line (suc k ∷ []))) (length-line (suc k ∷ [])));
-        }
-    go d m f (answers l) n s b =
-        let short = answer-short text l f in
-        let long = rearranged-length (may-rearranged (a .allowed l f)) in
-        let fits : leb (length (answerText l)) (length space) ≡ true = le-leb (length (answerText l)) (length space) (omega arith) in
-        let size-is : size ≡ length (answerText l) = s ∙ rw fits in
-        record {
-          answer-at = λ e. (rw (b, size-is) (front (answerText (a .written)) space (length (answerText l)) (omega arith) (sym long)), omega arith);
-          refusal-at = λ e. absurd (e (n ∙ rw fits));
-        }
+length-accepted : (n size long : ℕ) → n ≡ 0 → size ≡ lengthReturned n long → size ≡ long
+length-accepted zero size long z s = s
+length-accepted (suc n) size long z s = let y : ⊥ = omega arith in absurd y
 
-pub shown-answer : {text space after : List ℕ} {number size : ℕ} → Answered text space after number size → 583 ≤ length space → number ≡ 0
-    → Shown text after size × (size ≤ length space)
-shown-answer a h e =
-    let b = bytes-of a h .answer-at e in
-    (record { written = a .written; allowed = a .allowed; bytes = b .0 }, b .1)
+shown-length : {text space after : List ℕ} {number size : ℕ} (a : Answered text space after number size) → 583 ≤ length space → (m : ℕ) → due text .number ≡ m
+    → ShownBytes text (textOf m (a .written)) number size
+shown-length {text} {space} {number = number} {size = size} a h zero e =
+    let short = answer-short text e in
+    let long = rearranged-length (may-rearranged (a .allowed)) in
+    let number-is : number ≡ 0 = a .leaves .number-is ∙ rw (e, le-leb (length (answerText (due text .value))) (length space) (omega arith)) in
+    record {
+      few = omega arith;
+      of-answer = λ z. length-accepted number size _ z (a .leaves .size-is) ∙ long;
+      of-refusal = λ z. absurd (z number-is);
+    }
+shown-length {text} {space} {number = number} a h (suc m) e =
+    let line = length-line (suc m ∷ []) in
+    let number-is : number ≡ suc m = a .leaves .number-is ∙ rw e in
+    record { few = omega arith; of-answer = λ z. let y : ⊥ = omega arith in absurd y; of-refusal = λ z. sym line }
 
-pub shown-refusal : {text space after : List ℕ} {number size : ℕ} → Answered text space after number size → 583 ≤ length space → (number ≡ 0 → ⊥) → Shown text after 7
-shown-refusal a h e = record { written = a .written; allowed = a .allowed; bytes = bytes-of a h .refusal-at e }
+module _ {text space after : List ℕ} {number size : ℕ} (a : Answered text space after number size) (h : 583 ≤ length space) where
+  shown-at : (count : ℕ) → count ≡ length (textOf (due text .number) (a .written)) → Shown text space after count
+  shown-at count e =
+      let fits = shown-length a h (due text .number) refl .few in
+      record {
+        written = a .written;
+        allowed = a .allowed;
+        count-is = e;
+        bytes = a .leaves .bytes ∙ fits-front (textOf (due text .number) (a .written)) space (omega arith) ∙ rw e;
+      }
+
+  pub shown-answer : number ≡ 0 → Shown text space after size
+  shown-answer e = shown-at size (shown-length a h (due text .number) refl .of-answer e)
+
+  pub shown-refusal : (number ≡ 0 → ⊥) → Shown text space after 7
+  shown-refusal e = shown-at 7 (shown-length a h (due text .number) refl .of-refusal e)
+
+-- no more is shown than there is
+pub shown-most : {text space after : List ℕ} {count : ℕ} → Shown text space after count → count ≤ length after
+shown-most {text} {space = space} {count = count} s =
+    omega (arith, s .count-is, ap length (s .bytes), length-append (textOf (due text .number) (s .written)) (drop count space))

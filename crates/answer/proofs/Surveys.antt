@@ -4,71 +4,63 @@ use mathlib.Core.Logic.{⊎-elim}
 use mathlib.Core.Bool.{Bool, true}
 use mathlib.Core.List.{List, [], _∷_, _++_, map}
 use Prim.Native.Nat.{ℕ, zero, suc, _+_, _-_, _*_, _^_, _≤_, _<_}
-use native.Mathlib.Nat.{mul-suc, mul-le-mul, le-trans, not-suc-le-zero, eq-or-lt-of-le, le-of-suc-le-suc}
+use native.Mathlib.Nat.{mul-le-mul, le-trans, not-suc-le-zero, eq-or-lt-of-le, le-of-suc-le-suc}
 use native.Mathlib.Numerals.{add-one}
 use native.Mathlib.Omega.{arith}
 use borrow.Author.Tests.{leb-true, eqb-true}
 use lib.Dec.{lit≤, leb, eqb}
-use lib.Pow.{pow-pos, pow-mono}
+use lib.Pow.{pow-pos}
 use lib.ListN.{length, length-append, length-drop, getD, take, drop}
 use lib.Seq.{drop-cons, length-take-le, getD-take, getD-drop}
 use Rattle.field.specs.Polynomial.{Modulus, degree, xorCount}
-use Rattle.field.specs.Table.{table, startOf, polynomials}
-use Rattle.field.proofs.Degrees.{polynomial}
+use Rattle.field.specs.Table.{table, polynomials}
+use Rattle.field.specs.Steps.{startOf}
 use Rattle.field.proofs.Completeness.{part, polynomials-part, table-length, table-sound}
 use Rattle.matrix.specs.Counts.{total}
-use Rattle.matrix.specs.Regular.{everyBelow}
-use Rattle.matrix.proofs.Tallies.{xorCount-le, total-step}
+use Rattle.field.specs.Steps.{everyBelow}
+use Rattle.matrix.proofs.Tallies.{xorCount-le, total-step, total-le}
+use Rattle.field.proofs.Calls.{elements-most}
 use Rattle.text.specs.Text.{lineText, answerText, SixDigits}
 use Rattle.text.proofs.Compare.{both-true}
 use Rattle.text.proofs.Form.{six-none, six-more}
 use Rattle.text.proofs.Lengths.{length-line}
 use Rattle.answer.specs.Due.{surveyLine, surveyLines}
-use Rattle.answer.specs.Replied.{tableFrom, linesFrom}
+use Rattle.answer.specs.Steps.Replied.{tableFrom, linesFrom}
 
 -- a field has 4 to 256 elements
 pub size-low : (p : ℕ) → Modulus p → 1 ≤ 2 ^ degree p
 size-low p h = pow-pos (degree p)
 
-pub size-high : (p : ℕ) → Modulus p → 2 ^ degree p ≤ 256
-size-high p h = pow-mono {j = 8} (polynomial p h .most)
+-- the sum of f at 1, 2, .. n
+unfoldable pub sumTo : (ℕ → ℕ) → ℕ → ℕ
+sumTo f n = total n (λ a. f (suc a))
 
-pub total-most : (n k : ℕ) (f : ℕ → ℕ) → ((i : ℕ) → f i ≤ k) → total n f ≤ k * n
-unfolding total
-total-most zero k f h = omega arith
-total-most (suc n) k f h = omega (arith, total-most n k f h, h n, mul-suc k n)
+sumTo-most : (f : ℕ → ℕ) (n k : ℕ) → ((a : ℕ) → f a ≤ k) → sumTo f n ≤ k * n
+unfolding sumTo
+sumTo-most f n k h = total-le n k (λ a. f (suc a)) (λ a. h (suc a))
 
--- the sum of the counts, and of their squares, of the first n nonzero elements
-unfoldable pub countsTo : ℕ → ℕ → ℕ
-countsTo p n = total n (λ a. xorCount p (suc a))
+pub sumTo-step : (f : ℕ → ℕ) (n : ℕ) → sumTo f (n + 1) ≡ sumTo f n + f (n + 1)
+unfolding sumTo
+sumTo-step f n = total-step n (λ a. f (suc a)) ∙ rw add-one
 
-unfoldable pub squaresTo : ℕ → ℕ → ℕ
-squaresTo p n = total n (λ a. xorCount p (suc a) * xorCount p (suc a))
+-- the square of a count
+abbrev pub square : ℕ → ℕ → ℕ
+square p a = xorCount p a * xorCount p a
 
-pub square-le : (p a : ℕ) → Modulus p → xorCount p a * xorCount p a ≤ 3136
+pub square-le : (p a : ℕ) → Modulus p → square p a ≤ 3136
 square-le p a h = mul-le-mul (xorCount-le p a h) (xorCount-le p a h)
 
-pub counts-le : (p n : ℕ) → Modulus p → countsTo p n ≤ 56 * n
-unfolding countsTo
-counts-le p n h = total-most n 56 (λ a. xorCount p (suc a)) (λ a. xorCount-le p (suc a) h)
+pub counts-le : (p n : ℕ) → Modulus p → sumTo (xorCount p) n ≤ 56 * n
+counts-le p n h = sumTo-most (xorCount p) n 56 (λ a. xorCount-le p a h)
 
-pub squares-le : (p n : ℕ) → Modulus p → squaresTo p n ≤ 3136 * n
-unfolding squaresTo
-squares-le p n h = total-most n 3136 (λ a. xorCount p (suc a) * xorCount p (suc a)) (λ a. square-le p (suc a) h)
-
-pub counts-step : (p n : ℕ) → countsTo p (n + 1) ≡ countsTo p n + xorCount p (n + 1)
-unfolding countsTo
-counts-step p n = total-step n (λ a. xorCount p (suc a)) ∙ rw add-one
-
-pub squares-step : (p n : ℕ) → squaresTo p (n + 1) ≡ squaresTo p n + xorCount p (n + 1) * xorCount p (n + 1)
-unfolding squaresTo
-squares-step p n = total-step n (λ a. xorCount p (suc a) * xorCount p (suc a)) ∙ rw add-one
+pub squares-le : (p n : ℕ) → Modulus p → sumTo (square p) n ≤ 3136 * n
+squares-le p n h = sumTo-most (square p) n 3136 (λ a. square-le p a h)
 
 -- every number of a line fits its columns
 pub six-survey : (p : ℕ) → Modulus p → SixDigits (surveyLine p)
-unfolding surveyLine countsTo squaresTo
+unfolding surveyLine sumTo
 six-survey p h =
-    let few : 2 ^ degree p - 1 ≤ 255 = omega (arith, size-high p h) in
+    let few : 2 ^ degree p - 1 ≤ 255 = omega (arith, elements-most p h) in
     six-more _ (le-trans (h .high) (lit≤ tt))
     (six-more _ (omega (arith, counts-le p (2 ^ degree p - 1) h))
     (six-more _ (omega (arith, squares-le p (2 ^ degree p - 1) h)) six-none))
@@ -76,7 +68,7 @@ six-survey p h =
 -- ---- the table
 
 -- a test of every number below n, computed
-pub every-at : (n : ℕ) (test : ℕ → Bool) → everyBelow n test ≡ true → (i : ℕ) → i < n → test i ≡ true
+every-at : (n : ℕ) (test : ℕ → Bool) → everyBelow n test ≡ true → (i : ℕ) → i < n → test i ≡ true
 unfolding everyBelow
 every-at zero test e i h = absurd (not-suc-le-zero h)
 every-at (suc n) test e i h =
@@ -131,7 +123,7 @@ start-same m h = eqb-true (getD starts m 0) (startOf m) (every-at 10 (λ k. eqb 
 
 -- ---- the lines
 
-pub polynomials-are : (m : ℕ) → 2 ≤ m → m ≤ 8 → polynomials m ≡ tableFrom (startOf m) (startOf (m + 1))
+polynomials-are : (m : ℕ) → 2 ≤ m → m ≤ 8 → polynomials m ≡ tableFrom (startOf m) (startOf (m + 1))
 unfolding part tableFrom
 polynomials-are m l u = polynomials-part m l u ∙ ap (λ (k : ℕ). take (startOf k - startOf m) (drop (startOf m) table)) (sym (add-one m))
 

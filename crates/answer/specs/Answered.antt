@@ -1,13 +1,14 @@
--- What a call of `answer` returns, and every byte of the lent space after it. Assumes nothing.
+-- What a call of `answer` returns, and every byte of the lent space after it; and what the program shows. Assumes nothing.
 use mathlib.Core.Path.{_≡_}
-use mathlib.Core.Bool.{Bool, true, false, cond}
+use mathlib.Core.Bool.{Bool, cond}
 use mathlib.Core.List.{List, [], _∷_, _++_}
-use Prim.Native.Nat.{ℕ, _≤_}
+use Prim.Native.Nat.{ℕ, zero, suc}
 use lib.Dec.{leb}
 use lib.ListN.{length, drop}
+use Rattle.refusal.specs.Refusals.{Answer}
 use Rattle.text.specs.Text.{lineText, answerText}
 use Rattle.text.specs.Reading.{kindOf}
-use Rattle.answer.specs.Due.{Due, refusal, lines, due}
+use Rattle.answer.specs.Due.{due}
 
 -- ---- the order of the survey's lines is open
 
@@ -25,29 +26,41 @@ pub data MayWrite : ℕ → List (List ℕ) → List (List ℕ) → Type 0 where
 
 -- ---- number, length and bytes
 
--- the number returned: the refusal's, or 0, or 10 where the lent space is shorter than the answer due
-abbrev pub numberAt : Due → ℕ → ℕ
-numberAt (refusal number) lent = number
-numberAt (lines l) lent = cond (leb (length (answerText l)) lent) 0 10
+-- the text of a number that is due and of lines: the answer text, or the refusal's line
+abbrev pub textOf : ℕ → List (List ℕ) → List ℕ
+textOf zero lines = answerText lines
+textOf (suc number) lines = lineText (suc number ∷ [])
+
+-- the number returned: the refusal's; else 0, or 10 where the answer due does not fit the lent space
+abbrev pub numberReturned : ℕ → Bool → ℕ
+numberReturned zero fits = cond fits 0 10
+numberReturned (suc number) fits = suc number
 
 -- the length returned: that of the answer if accepted, 0 for every refusal
-abbrev pub lengthAt : Due → ℕ → ℕ
-lengthAt (refusal number) lent = 0
-lengthAt (lines l) lent = cond (leb (length (answerText l)) lent) (length (answerText l)) 0
+abbrev pub lengthReturned : ℕ → ℕ → ℕ
+lengthReturned zero size = size
+lengthReturned (suc number) size = 0
 
 -- a text at the start of the space where it fits, and the rest kept; else nothing changes
 abbrev pub writtenAt : List ℕ → List ℕ → List ℕ
 writtenAt text space = cond (leb (length text) (length space)) (text ++ drop (length text) space) space
 
--- the space after the call: the refusal's line, or the answer
-abbrev pub spaceAt : Due → List (List ℕ) → List ℕ → List ℕ
-spaceAt (refusal number) written space = writtenAt (lineText (number ∷ [])) space
-spaceAt (lines l) written space = writtenAt (answerText written) space
+-- number, length and bytes where this is due and these lines are written
+pub record Leaves (d : Answer (List (List ℕ))) (written : List (List ℕ)) (space after : List ℕ) (number size : ℕ) : Type 0 where
+  pub number-is : number ≡ numberReturned (d .number) (leb (length (answerText (d .value))) (length space))
+  pub size-is : size ≡ lengthReturned number (length (answerText (d .value)))
+  pub bytes : after ≡ writtenAt (textOf (d .number) written) space
 
--- what a call yields: number and length, and the space, with the lines that were written
+-- what a call yields, with the lines that were written
 pub record Answered (text space after : List ℕ) (number size : ℕ) : Type 0 where
   pub written : List (List ℕ)
-  pub allowed : (l : List (List ℕ)) → due text ≡ lines l → MayWrite (kindOf text) l written
-  pub number-is : number ≡ numberAt (due text) (length space)
-  pub size-is : size ≡ lengthAt (due text) (length space)
-  pub bytes : after ≡ spaceAt (due text) written space
+  pub allowed : MayWrite (kindOf text) (due text .value) written
+  pub leaves : Leaves (due text) written space after number size
+
+-- what the program shows: the first `count` bytes of the space, which are the answer text or the refusal's line; the bytes behind them are
+-- as before
+pub record Shown (text space after : List ℕ) (count : ℕ) : Type 0 where
+  pub written : List (List ℕ)
+  pub allowed : MayWrite (kindOf text) (due text .value) written
+  pub count-is : count ≡ length (textOf (due text .number) written)
+  pub bytes : after ≡ textOf (due text .number) written ++ drop count space

@@ -1,61 +1,87 @@
--- What is due to a request text: the first refusal that applies, or the lines of the answer. In the words of document 01.
--- Assumes nothing.
-use mathlib.Core.Bool.{Bool, true, false, not, _||_}
-use mathlib.Core.List.{List, [], _∷_, map}
-use Prim.Native.Nat.{ℕ, zero, suc, _+_, _-_, _*_, _^_}
+-- What is due to a request text, in the words of document 01: what a request is; for each kind its faults in the order in which they are
+-- looked at, and its lines; the table of kinds; and what is due. Assumes nothing.
+use mathlib.Core.Bool.{true, not, cond, _||_}
+use mathlib.Core.List.{List, [], _∷_, _++_, map}
+use Prim.Native.Nat.{ℕ, suc, _+_, _-_, _*_, _^_}
 use lib.Dec.{eqb, ltb}
-use lib.ListN.{length, getD, take}
-use Rattle.field.specs.Polynomial.{degree, isIrreducible, xorCount}
+use lib.ListN.{length, getD}
+use Rattle.refusal.specs.Refusals.{Fault, fault, Answer, answerAfter}
+use Rattle.field.specs.Polynomial.{degree, xorCount}
 use Rattle.field.specs.Table.{polynomials}
-use Rattle.field.specs.Outcome.{isOutside}
-use Rattle.matrix.specs.Counts.{total, rowCount}
-use Rattle.matrix.specs.Answers.{CheckAnswer, checkOf, isWrongOrder}
-use Rattle.search.specs.Answer.{SearchAnswer, searchAnswer, someTooLarge}
+use Rattle.field.specs.Faults.{polynomialFaults}
+use Rattle.matrix.specs.Counts.{total}
+use Rattle.matrix.specs.Answers.{checkOf, isWrongOrder}
+use Rattle.search.specs.Lightest.{Best, nothing, found}
+use Rattle.search.specs.Shape.{hadamardShape}
+use Rattle.search.specs.Answer.{sumOf, lightestRow, someTooLarge, searchFaults}
+use Rattle.search.specs.Demands.{countOfRow}
 use Rattle.text.specs.Reading.{inForm, kindOf, polynomialOf, orderOf, valuesOf}
 
--- what is due: a refusal's number, or the numbers of the answer, line by line
-pub data Due : Type 0 where
-  refusal : ℕ → Due
-  lines : List (List ℕ) → Due
+-- a request: the second and the third number of line one, and the values
+pub record Request : Type 0 where
+  pub polynomial : ℕ
+  pub order : ℕ
+  pub values : List ℕ
 
--- refusal n where the fault is there, else what follows
-abbrev pub refuseDue : ℕ → Bool → Due → Due
-refuseDue number true rest = refusal number
-refuseDue number false rest = rest
+abbrev pub request : ℕ → ℕ → List ℕ → Request
+request polynomial order values = record { polynomial = polynomial; order = order; values = values }
+
+-- a kind: its number, its faults, and the numbers of its answer, line by line
+pub record Kind : Type 0 where
+  pub number : ℕ
+  pub faults : Request → List Fault
+  pub lines : Request → List (List ℕ)
 
 -- ---- kind 1, search
 
 -- line one: 0, sum of element counts, row count, matrix count (n times the row count); line two: the row
-unfoldable pub rowLines : ℕ → ℕ → ℕ → List ℕ → List (List ℕ)
-rowLines p n sum row =
-    (0 ∷ sum ∷ rowCount p n (λ j. getD row j 0) ∷ n * rowCount p n (λ j. getD row j 0) ∷ []) ∷ take n row ∷ []
+unfoldable pub rowLines : ℕ → ℕ → List ℕ → List (List ℕ)
+rowLines p n row = (0 ∷ sumOf p n row ∷ countOfRow p n row ∷ n * countOfRow p n row ∷ []) ∷ row ∷ []
 
-abbrev pub searchDueAt : ℕ → ℕ → ℕ → SearchAnswer → Due
-searchDueAt zero p n found = lines (rowLines p n (found .sum) (found .row))
-searchDueAt (suc number) p n found = refusal (suc number)
+abbrev pub bestLines : ℕ → ℕ → Best → List (List ℕ)
+bestLines p n nothing = []
+bestLines p n (found row) = rowLines p n row
 
-unfoldable pub searchDue : ℕ → ℕ → List ℕ → Due
-searchDue p n values = searchDueAt (searchAnswer p n values .number) p n (searchAnswer p n values)
+unfoldable pub search : Kind
+search =
+    record {
+      number = 1;
+      faults = λ r. searchFaults (r .polynomial) (r .order) (r .values) (lightestRow hadamardShape (r .polynomial) (r .order) (r .values));
+      lines = λ r. bestLines (r .polynomial) (r .order) (lightestRow hadamardShape (r .polynomial) (r .order) (r .values));
+    }
 
 -- ---- kind 2, check
 
+-- order n from 1 to 8, count n·n
+unfoldable pub checkFaults : ℕ → ℕ → List ℕ → List Fault
+checkFaults p n values =
+    polynomialFaults p
+    ++ fault 5 (isWrongOrder n)
+    ∷ fault 6 (not (eqb (length values) (n * n)))
+    ∷ fault 7 (someTooLarge p values)
+    ∷ []
+
 -- the entries line by line
-unfoldable pub matrixOf : ℕ → List ℕ → ℕ → ℕ → ℕ
-matrixOf n values i j = getD values (i * n + j) 0
+unfoldable pub entriesOf : ℕ → List ℕ → ℕ → ℕ → ℕ
+entriesOf n values i j = getD values (i * n + j) 0
 
 -- 0, branch number, MDS (1 or 0), involution (1 or 0), matrix count
-unfoldable pub checkLine : CheckAnswer → List ℕ
-checkLine found = 0 ∷ found .branch ∷ found .mds ∷ found .involution ∷ found .count ∷ []
+unfoldable pub checkLines : ℕ → ℕ → (ℕ → ℕ → ℕ) → List (List ℕ)
+checkLines p n f = (0 ∷ checkOf p n f) ∷ []
 
-unfoldable pub checkDue : ℕ → ℕ → List ℕ → Due
-checkDue p n values =
-    refuseDue 3 (isOutside p)
-    (refuseDue 4 (not (isIrreducible p))
-    (refuseDue 5 (isWrongOrder n)
-    (refuseDue 6 (not (eqb (length values) (n * n)))
-    (refuseDue 7 (someTooLarge p values) (lines (checkLine (checkOf p n (matrixOf n values)) ∷ []))))))
+unfoldable pub check : Kind
+check =
+    record {
+      number = 2;
+      faults = λ r. checkFaults (r .polynomial) (r .order) (r .values);
+      lines = λ r. checkLines (r .polynomial) (r .order) (entriesOf (r .order) (r .values));
+    }
 
 -- ---- kind 3, survey
+
+-- the second number is a degree from 2 to 8, order and count are 0
+unfoldable pub surveyFaults : ℕ → ℕ → List ℕ → List Fault
+surveyFaults m order values = fault 3 (ltb m 2 || ltb 8 m) ∷ fault 5 (not (eqb order 0)) ∷ fault 6 (not (eqb (length values) 0)) ∷ []
 
 -- a polynomial, the sum of the XOR counts of its nonzero elements, the sum of their squares
 unfoldable pub surveyLine : ℕ → List ℕ
@@ -69,26 +95,40 @@ surveyLine p =
 unfoldable pub surveyLines : ℕ → List (List ℕ)
 surveyLines m = (0 ∷ length (polynomials m) ∷ []) ∷ map surveyLine (polynomials m)
 
--- the second number is a degree from 2 to 8, order and count are 0
-unfoldable pub surveyDue : ℕ → ℕ → List ℕ → Due
-surveyDue m order values =
-    refuseDue 3 (ltb m 2 || ltb 8 m) (refuseDue 5 (not (eqb order 0)) (refuseDue 6 (not (eqb (length values) 0)) (lines (surveyLines m))))
+unfoldable pub survey : Kind
+survey =
+    record {
+      number = 3;
+      faults = λ r. surveyFaults (r .polynomial) (r .order) (r .values);
+      lines = λ r. surveyLines (r .polynomial);
+    }
 
--- ---- the request
+-- ---- the request text
 
--- by the kind: 1, 2, 3, or refusal 2
-abbrev pub byKind : ℕ → Due → Due → Due → Due
-byKind zero search check survey = refusal 2
-byKind (suc zero) search check survey = search
-byKind (suc (suc zero)) search check survey = check
-byKind (suc (suc (suc zero))) search check survey = survey
-byKind (suc (suc (suc (suc kind)))) search check survey = refusal 2
+-- the kinds
+unfoldable pub kinds : List Kind
+kinds = search ∷ check ∷ survey ∷ []
 
--- the numbers of a request
-unfoldable pub dueNumbers : ℕ → ℕ → ℕ → List ℕ → Due
-dueNumbers kind polynomial order values =
-    byKind kind (searchDue polynomial order values) (checkDue polynomial order values) (surveyDue polynomial order values)
+-- the kind of a number; to a number that no kind has, 2 applies
+unfoldable pub kindAmong : List Kind → ℕ → Kind
+kindAmong [] number = record { number = number; faults = λ r. fault 2 true ∷ []; lines = λ r. [] }
+kindAmong (kind ∷ rest) number = cond (eqb number (kind .number)) kind (kindAmong rest number)
 
--- the request text: 1 where it is not of the form
-unfoldable pub due : List ℕ → Due
-due text = refuseDue 1 (not (inForm text)) (dueNumbers (kindOf text) (polynomialOf text) (orderOf text) (valuesOf text))
+-- what is due to a request of a kind: the first of its faults that applies, else its lines
+unfoldable pub dueTo : Kind → Request → Answer (List (List ℕ))
+dueTo kind r = answerAfter [] (kind .faults r) (kind .lines r)
+
+-- kind and request of a text
+unfoldable pub kindIn : List ℕ → Kind
+kindIn text = kindAmong kinds (kindOf text)
+
+unfoldable pub requestIn : List ℕ → Request
+requestIn text = request (polynomialOf text) (orderOf text) (valuesOf text)
+
+-- the faults of a text: 1 where it is not of the form, then those of its kind
+unfoldable pub faultsOf : List ℕ → List Fault
+faultsOf text = fault 1 (not (inForm text)) ∷ kindIn text .faults (requestIn text)
+
+-- what is due to a text
+unfoldable pub due : List ℕ → Answer (List (List ℕ))
+due text = answerAfter [] (faultsOf text) (kindIn text .lines (requestIn text))

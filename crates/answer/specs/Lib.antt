@@ -1,8 +1,6 @@
--- The definitions that the contracts of `answer` cite. To be believed: Due and Answered; Faults, DemandThree and Reference are what theorems speak of.
+-- The definitions that the contracts of `answer` cite, the demands' statements, and the reference lines. To be believed: all but Steps.
 pub mod Due
 pub mod Answered
-pub mod Replied
-pub mod Shown
-pub mod Faults
-pub mod DemandThree
+pub mod Demands
 pub mod Reference
+pub mod Steps

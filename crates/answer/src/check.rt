@@ -1,20 +1,20 @@
 // Kind 2: what is found of a matrix.
 
 ghost use mathlib.Core.Path.{_≡_};
-ghost use mathlib.Core.List.{[], _∷_};
-ghost use Prim.Native.Nat.{ℕ, _+_, _*_, _^_, _≤_, _<_};
-ghost use lib.ListN.{getD};
+ghost use Prim.Native.Nat.{ℕ, _+_, _-_, _*_, _^_, _≤_, _<_};
+ghost use Rattle.refusal.specs.Refusals.{answer};
 ghost use Rattle.field.specs.Polynomial.{Modulus, degree};
-ghost use Rattle.matrix.specs.Numbers.{entry};
-ghost use Rattle.matrix.specs.Answers.{yesNo, checkOf};
+ghost use Rattle.matrix.specs.Answers.{isWrongOrder};
+ghost use Rattle.matrix.specs.Steps.Blocks.{framed, filled};
 ghost use Rattle.search.specs.Answer.{someTooLarge};
 ghost use Rattle.text.specs.Reading.{valueAt, valuesFrom};
-ghost use Rattle.answer.specs.Due.{lines, checkLine, checkDue};
-ghost use Rattle.answer.specs.Replied.{Replied};
+ghost use Rattle.answer.specs.Due.{request, checkLines, check, dueTo};
+ghost use Rattle.answer.specs.Steps.Replied.{Replied};
 use crate::Reply;
-use crate::write::number_of;
 use crate::write::put_answer;
 use crate::write::refuse;
+use refusal::Outcome;
+use refusal::Refusal;
 
 // Whether one of the values is 2^m or more, m the degree. The values stand in the part of a request text that follows line one.
 fn some_too_large(p: u16, part: &[u8], count: usize) -> bool
@@ -31,10 +31,10 @@ fn some_too_large(p: u16, part: &[u8], count: usize) -> bool
     false
 }
 
-// The n values from number `first` on, as a line of a matrix.
+// The n values from number `first` on, as a line of a matrix, and zeros behind them.
 fn line_of(part: &[u8], first: usize, n: usize) -> [u8; 8]
     requires { ⌜ (n ≤ 8) × (first ≤ 64) × ((j : ℕ) → j < n → valueAt (now part) (first + j) < 256) ⌝ }
-    ensures { λ r. ⌜ ((j : ℕ) → j < n → getD r j 0 ≡ valueAt (now (part .entry)) (first + j)) ⌝ }
+    ensures { λ r. ⌜ r ≡ filled 0 (λ j. valueAt (now (part .entry)) (first + j)) n ⌝ }
 {
     let mut line = [0u8; 8];
     let mut j = 0;
@@ -45,10 +45,10 @@ fn line_of(part: &[u8], first: usize, n: usize) -> [u8; 8]
     line
 }
 
-// The matrix of order n, its entries line by line.
+// The matrix of order n, its entries line by line, and zeros elsewhere.
 fn matrix_of(part: &[u8], n: usize) -> [[u8; 8]; 8]
     requires { ⌜ (n ≤ 8) × ((i j : ℕ) → i < n → j < n → valueAt (now part) (i * n + j) < 256) ⌝ }
-    ensures { λ r. ⌜ ((i j : ℕ) → i < n → j < n → entry r i j ≡ valueAt (now (part .entry)) (i * n + j)) ⌝ }
+    ensures { λ r. ⌜ r ≡ framed n n (λ i j. valueAt (now (part .entry)) (i * n + j)) ⌝ }
 {
     let mut m = [[0u8; 8]; 8];
     let mut i = 0;
@@ -63,7 +63,7 @@ fn matrix_of(part: &[u8], n: usize) -> [[u8; 8]; 8]
 // Writes what is found of the matrix of order n, if it fits.
 fn put_check(part: &[u8], space: &mut [u8], p: u16, n: usize) -> Reply
     requires { ⌜ Modulus p × (1 ≤ n) × (n ≤ 8) × ((i j : ℕ) → i < n → j < n → valueAt (now part) (i * n + j) < 2 ^ degree p) ⌝ }
-    ensures { λ r. ⌜ Replied (lines (checkLine (checkOf p n (λ i j. valueAt (now (part .entry)) (i * n + j))) ∷ []))
+    ensures { λ r. ⌜ Replied (answer 0 (checkLines p n (λ i j. valueAt (now (part .entry)) (i * n + j))))
         (now (space .entry)) (now (space .exit)) (r .number) (r .length) ⌝ }
 {
     let m = matrix_of(part, n);
@@ -75,32 +75,36 @@ fn put_check(part: &[u8], space: &mut [u8], p: u16, n: usize) -> Reply
     )
 }
 
+// Whether the order is not from 1 to 8.
+fn wrong_order(n: u32) -> bool
+    ensures { λ r. ⌜ r ≡ isWrongOrder n ⌝ }
+{
+    n == 0 || 8 < n
+}
+
 // The check over a polynomial that is accepted.
 fn check_over(part: &[u8], space: &mut [u8], p: u16, n: u32, count: u32) -> Reply
     requires { ⌜ Modulus p ⌝ }
-    ensures { λ r. ⌜ Replied (checkDue p n (valuesFrom (now (part .entry)) 0 count)) (now (space .entry)) (now (space .exit)) (r .number) (r .length) ⌝ }
+    ensures { λ r. ⌜ Replied (dueTo check (request p n (valuesFrom (now (part .entry)) 0 count))) (now (space .entry)) (now (space .exit)) (r .number) (r .length) ⌝ }
 {
-    if n == 0 {
-        return refuse(space, 5);
-    }
-    if 8 < n {
-        return refuse(space, 5);
+    if wrong_order(n) {
+        return refuse(space, Refusal::OrderRange);
     }
     if count != n * n {
-        return refuse(space, 6);
+        return refuse(space, Refusal::CountRange);
     }
     if some_too_large(p, part, count as usize) {
-        return refuse(space, 7);
+        return refuse(space, Refusal::ValueRange);
     }
     put_check(part, space, p, n as usize)
 }
 
 // The check of a matrix of order n, whose entries stand in the part of a request text that follows line one.
 pub fn check(part: &[u8], space: &mut [u8], p: u32, n: u32, count: u32) -> Reply
-    ensures { λ r. ⌜ Replied (checkDue p n (valuesFrom (now (part .entry)) 0 count)) (now (space .entry)) (now (space .exit)) (r .number) (r .length) ⌝ }
+    ensures { λ r. ⌜ Replied (dueTo check (request p n (valuesFrom (now (part .entry)) 0 count))) (now (space .entry)) (now (space .exit)) (r .number) (r .length) ⌝ }
 {
     match field::checked_degree(p) {
-        field::Outcome::Refused(reason) => refuse(space, number_of(reason)),
-        field::Outcome::Value(_) => check_over(part, space, p as u16, n, count),
+        Outcome::Refused(reason) => refuse(space, reason),
+        Outcome::Value(_) => check_over(part, space, p as u16, n, count),
     }
 }

@@ -1,9 +1,9 @@
 // One request text to one answer text.
 
 ghost use Rattle.text.specs.Reading.{valuesFrom};
-ghost use Rattle.answer.specs.Due.{dueNumbers};
+ghost use Rattle.answer.specs.Due.{request, kinds, kindAmong, dueTo};
 ghost use Rattle.answer.specs.Answered.{Answered};
-ghost use Rattle.answer.specs.Replied.{Replied};
+ghost use Rattle.answer.specs.Steps.Replied.{Replied};
 
 mod check;
 mod row;
@@ -11,6 +11,7 @@ mod survey;
 mod write;
 
 use crate::write::refuse;
+use refusal::Refusal;
 
 // The number that is returned, 0 where the request is accepted, and the length of the answer, 0 where it is refused.
 pub struct Reply {
@@ -27,14 +28,14 @@ fn answer_kind(
     order: u32,
     count: u32,
 ) -> Reply
-    ensures { λ r. ⌜ Replied (dueNumbers kind polynomial order (valuesFrom (now (part .entry)) 0 count))
+    ensures { λ r. ⌜ Replied (dueTo (kindAmong kinds kind) (request polynomial order (valuesFrom (now (part .entry)) 0 count)))
         (now (space .entry)) (now (space .exit)) (r .number) (r .length) ⌝ }
 {
     match kind {
         1 => row::search_row(part, space, polynomial, order, count),
         2 => check::check(part, space, polynomial, order, count),
-        3 => survey::survey(space, polynomial, order, count),
-        _ => refuse(space, 2),
+        3 => survey::survey(part, space, polynomial, order, count),
+        _ => refuse(space, Refusal::Kind),
     }
 }
 
@@ -43,7 +44,7 @@ pub fn answer(request: &[u8], space: &mut [u8]) -> Reply
     ensures { λ r. ⌜ Answered (now (request .entry)) (now (space .entry)) (now (space .exit)) (r .number) (r .length) ⌝ }
 {
     match text::read_header(request) {
-        text::Header::Refused => refuse(space, 1),
+        text::Header::Refused => refuse(space, Refusal::Form),
         text::Header::Read {
             kind,
             polynomial,

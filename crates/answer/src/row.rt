@@ -1,18 +1,20 @@
 // Kind 1: the lightest row.
 
 ghost use mathlib.Core.Path.{_≡_};
-ghost use Prim.Native.Nat.{ℕ, _≤_, min};
-ghost use lib.ListN.{take, getD};
+ghost use mathlib.Core.List.{_++_};
+ghost use Prim.Native.Nat.{_-_, _≤_, min};
+ghost use lib.ListN.{take, replicate};
+ghost use Rattle.refusal.specs.Refusals.{answer};
 ghost use Rattle.field.specs.Polynomial.{Modulus};
-ghost use Rattle.matrix.specs.Counts.{elementCount};
+ghost use Rattle.search.specs.Answer.{sumOf};
 ghost use Rattle.text.specs.Text.{SixDigits};
 ghost use Rattle.text.specs.Reading.{valuesFrom};
-ghost use Rattle.answer.specs.Due.{lines, rowLines, searchDue};
-ghost use Rattle.answer.specs.Replied.{Replied};
+ghost use Rattle.answer.specs.Due.{request, rowLines, search, dueTo};
+ghost use Rattle.answer.specs.Steps.Replied.{Replied};
 use crate::Reply;
-use crate::write::number_of;
 use crate::write::put_answers;
 use crate::write::refuse;
+use refusal::Outcome;
 
 // At most 256: one more than a search takes.
 fn at_most(count: u32) -> usize
@@ -21,10 +23,10 @@ fn at_most(count: u32) -> usize
     if count < 256 { count as usize } else { 256 }
 }
 
-// The first values, read from the part of a request text that follows line one.
+// The first values, read from the part of a request text that follows line one, and zeros behind them.
 fn read_values(part: &[u8], count: usize) -> [u32; 256]
     requires { ⌜ count ≤ 256 ⌝ }
-    ensures { λ r. ⌜ take count r ≡ valuesFrom (now (part .entry)) 0 count ⌝ }
+    ensures { λ r. ⌜ r ≡ valuesFrom (now (part .entry)) 0 count ++ replicate (256 - count) 0 ⌝ }
 {
     let mut values = [0u32; 256];
     let mut i = 0;
@@ -57,8 +59,8 @@ fn widened(row: [u8; 8]) -> [u32; 8]
 
 // Writes a row that is found, if it fits: its counts, and its entries.
 fn put_row(space: &mut [u8], p: u16, n: usize, sum: u32, row: [u8; 8]) -> Reply
-    requires { ⌜ Modulus p × (1 ≤ n) × (n ≤ 8) × (sum ≡ elementCount p n (λ j. getD row j 0)) ⌝ }
-    ensures { λ r. ⌜ Replied (lines (rowLines p n sum row)) (now (space .entry)) (now (space .exit)) (r .number) (r .length) ⌝ }
+    requires { ⌜ Modulus p × (1 ≤ n) × (n ≤ 8) × (sum ≡ sumOf p n (take n row)) ⌝ }
+    ensures { λ r. ⌜ Replied (answer 0 (rowLines p n (take n row))) (now (space .entry)) (now (space .exit)) (r .number) (r .length) ⌝ }
 {
     let order = n as u32;
     let count = sum + (order - 1) * field::degree(p) as u32;
@@ -68,7 +70,7 @@ fn put_row(space: &mut [u8], p: u16, n: usize, sum: u32, row: [u8; 8]) -> Reply
 
 // The search over the candidates, which stand in the part of a request text that follows line one.
 pub fn search_row(part: &[u8], space: &mut [u8], p: u32, n: u32, count: u32) -> Reply
-    ensures { λ r. ⌜ Replied (searchDue p n (valuesFrom (now (part .entry)) 0 count)) (now (space .entry)) (now (space .exit)) (r .number) (r .length) ⌝ }
+    ensures { λ r. ⌜ Replied (dueTo search (request p n (valuesFrom (now (part .entry)) 0 count))) (now (space .entry)) (now (space .exit)) (r .number) (r .length) ⌝ }
 {
     let kept = at_most(count);
     let values = read_values(part, kept);
@@ -76,7 +78,7 @@ pub fn search_row(part: &[u8], space: &mut [u8], p: u32, n: u32, count: u32) -> 
     let row = found.row;
     let outcome = found.outcome;
     match outcome {
-        field::Outcome::Refused(reason) => refuse(space, number_of(reason)),
-        field::Outcome::Value(sum) => put_row(space, p as u16, n as usize, sum, row),
+        Outcome::Refused(reason) => refuse(space, reason),
+        Outcome::Value(sum) => put_row(space, p as u16, n as usize, sum, row),
     }
 }

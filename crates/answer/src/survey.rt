@@ -1,19 +1,23 @@
 // Kind 3: the polynomials of a degree.
 
 ghost use mathlib.Core.Path.{_≡_};
-ghost use mathlib.Core.List.{[]};
-ghost use Prim.Native.Nat.{suc, _+_, _-_, _*_, _^_, _≤_};
+ghost use mathlib.Core.Bool.{_||_};
+ghost use mathlib.Core.List.{[], _∷_};
+ghost use Prim.Native.Nat.{_+_, _-_, _*_, _^_, _≤_};
+ghost use lib.Dec.{ltb};
 ghost use lib.ListN.{length};
-ghost use Rattle.field.specs.Polynomial.{Modulus, degree, xorCount};
-ghost use Rattle.field.specs.Table.{startOf};
-ghost use Rattle.matrix.specs.Counts.{total};
+ghost use Rattle.refusal.specs.Refusals.{answer};
+ghost use Rattle.field.specs.Polynomial.{Modulus, degree};
+ghost use Rattle.field.specs.Steps.{startOf};
 ghost use Rattle.text.specs.Text.{lineText};
 ghost use Rattle.text.specs.Writing.{Put};
 ghost use Rattle.text.specs.Reading.{valuesFrom};
-ghost use Rattle.answer.specs.Due.{lines, surveyLine, surveyLines, surveyDue};
-ghost use Rattle.answer.specs.Replied.{Replied, linesFrom};
+ghost use Rattle.answer.specs.Due.{request, surveyLine, surveyLines, survey, dueTo};
+ghost use Rattle.answer.specs.Steps.Replied.{Replied, linesFrom};
 use crate::Reply;
 use crate::write::refuse;
+use crate::write::too_short;
+use refusal::Refusal;
 
 // Where the polynomials of each degree begin in the table, and where the last ones end.
 const STARTS: [usize; 10] = [0, 0, 0, 1, 3, 6, 12, 21, 39, 69];
@@ -26,35 +30,27 @@ fn nonzero(p: u16) -> usize
     (1 << field::degree(p)) - 1
 }
 
-// The sum of the XOR counts of the nonzero elements.
-fn count_sum(p: u16) -> u32
-    requires { ⌜ Modulus p ⌝ }
-    ensures { λ r. ⌜ r ≡ total (2 ^ degree p - 1) (λ a. xorCount p (suc a)) ⌝ }
-{
-    let last = nonzero(p);
-    let mut sum: u32 = 0;
-    let mut a = 0usize;
-    while a < last {
-        a += 1;
-        sum += field::xor_count(p, a as u8) as u32;
-    }
-    sum
+// The sum of the XOR counts of the nonzero elements, and the sum of their squares.
+struct Sums {
+    counts: u32,
+    squares: u32,
 }
 
-// The sum of the squares of the XOR counts of the nonzero elements.
-fn square_sum(p: u16) -> u32
+fn sums_of(p: u16) -> Sums
     requires { ⌜ Modulus p ⌝ }
-    ensures { λ r. ⌜ r ≡ total (2 ^ degree p - 1) (λ a. xorCount p (suc a) * xorCount p (suc a)) ⌝ }
+    ensures { λ r. ⌜ p ∷ r .counts ∷ r .squares ∷ [] ≡ surveyLine p ⌝ }
 {
     let last = nonzero(p);
-    let mut sum: u32 = 0;
+    let mut counts: u32 = 0;
+    let mut squares: u32 = 0;
     let mut a = 0usize;
     while a < last {
         a += 1;
         let count = field::xor_count(p, a as u8) as u32;
-        sum += count * count;
+        counts += count;
+        squares += count * count;
     }
-    sum
+    Sums { counts, squares }
 }
 
 // Writes the line of a polynomial at place `at`. The result is the place behind it.
@@ -62,9 +58,8 @@ fn put_polynomial(space: &mut [u8], at: usize, p: u16) -> usize
     requires { ⌜ Modulus p × (at + 19 ≤ length (now space)) ⌝ }
     ensures { λ r. ⌜ Put (now (space .entry)) (now (space .exit)) at (lineText (surveyLine p)) r ⌝ }
 {
-    let sum = count_sum(p);
-    let squares = square_sum(p);
-    text::put_line(space, at, &[p as u32, sum, squares])
+    let found = sums_of(p);
+    text::put_line(space, at, &[p as u32, found.counts, found.squares])
 }
 
 // Where the polynomials of degree m begin in the table.
@@ -92,16 +87,13 @@ fn put_polynomials(space: &mut [u8], at: usize, first: usize, last: usize) -> us
 // Writes the survey of degree m, if it fits.
 fn put_survey(space: &mut [u8], m: usize) -> Reply
     requires { ⌜ (2 ≤ m) × (m ≤ 8) ⌝ }
-    ensures { λ r. ⌜ Replied (lines (surveyLines m)) (now (space .entry)) (now (space .exit)) (r .number) (r .length) ⌝ }
+    ensures { λ r. ⌜ Replied (answer 0 (surveyLines m)) (now (space .entry)) (now (space .exit)) (r .number) (r .length) ⌝ }
 {
     let first = start_of(m);
     let last = start_of(m + 1);
     let count = last - first;
     if space.len() < 13 + 19 * count {
-        return Reply {
-            number: 10,
-            length: 0,
-        };
+        return too_short();
     }
     let next = text::put_line(space, 0, &[0, count as u32]);
     let end = put_polynomials(space, next, first, last);
@@ -111,21 +103,25 @@ fn put_survey(space: &mut [u8], m: usize) -> Reply
     }
 }
 
-// The survey of degree m: order and count are to be 0.
-pub fn survey(space: &mut [u8], m: u32, order: u32, count: u32) -> Reply
-    ensures { λ r. ⌜ Replied (surveyDue m order (valuesFrom [] 0 count)) (now (space .entry)) (now (space .exit)) (r .number) (r .length) ⌝ }
+// Whether the degree is not from 2 to 8.
+fn wrong_degree(m: u32) -> bool
+    ensures { λ r. ⌜ r ≡ (ltb m 2 || ltb 8 m) ⌝ }
 {
-    if m < 2 {
-        return refuse(space, 3);
-    }
-    if 8 < m {
-        return refuse(space, 3);
+    m < 2 || 8 < m
+}
+
+// The survey of degree m: order and count are to be 0.
+pub fn survey(part: &[u8], space: &mut [u8], m: u32, order: u32, count: u32) -> Reply
+    ensures { λ r. ⌜ Replied (dueTo survey (request m order (valuesFrom (now (part .entry)) 0 count))) (now (space .entry)) (now (space .exit)) (r .number) (r .length) ⌝ }
+{
+    if wrong_degree(m) {
+        return refuse(space, Refusal::PolynomialRange);
     }
     if order != 0 {
-        return refuse(space, 5);
+        return refuse(space, Refusal::OrderRange);
     }
     if count != 0 {
-        return refuse(space, 6);
+        return refuse(space, Refusal::CountRange);
     }
     put_survey(space, m as usize)
 }

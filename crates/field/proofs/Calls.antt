@@ -1,27 +1,22 @@
--- The chain of refusals, taken apart and put together. Assumes nothing.
-use mathlib.Core.Path.{_≡_, refl, sym, ap, ap₂, _∙_, subst}
+-- The faults of a polynomial, and the values that pass. Assumes nothing.
+use mathlib.Core.Path.{_≡_, refl, ap, ap₂, _∙_}
 use mathlib.Core.Bool.{Bool, true, false, not, _||_}
+use mathlib.Core.List.{List, [], _++_}
 use Prim.Native.Nat.{ℕ, _^_, _≤_, _<_}
-use native.Mathlib.Nat.{lt-of-lt-of-le}
+use native.Mathlib.Nat.{lt-of-lt-of-le, lt-of-le-of-lt}
 use native.Mathlib.Omega.{arith}
-use borrow.Author.Tests.{ltb-true, ltb-false, lt-ltb, le-ltb, leb-false, lt-leb}
-use lib.Dec.{ltb, leb}
+use borrow.Author.Tests.{ltb-false, lt-ltb, le-ltb, leb-false, not-false}
+use lib.Dec.{ltb, lit<}
 use lib.Pow.{pow-mono}
-use Rattle.field.specs.declared.Refusal.{Refusal}
-use Rattle.field.specs.declared.Refusal.the-variants.{PolynomialRange, Reducible, OrderRange, CountRange, ValueRange, BadCandidate, NoRow}
+use Rattle.refusal.specs.declared.Outcome.{Outcome}
+use Rattle.refusal.specs.declared.Outcome.the-variants.{Value}
+use Rattle.refusal.specs.Refusals.{Fault, firstNumber, answerAfter, answerOf}
+use Rattle.refusal.proofs.Faults.{first-empty, first-taken, first-left, first-passed, first-parts, after-later, numbered, outcome-passed}
 use Rattle.field.specs.Polynomial.{degree, isIrreducible, Modulus}
-use Rattle.field.specs.Outcome.{Answer, accepted, refused, numberOf, refuse, isOutside, isTooLarge, overPolynomial, degreeAnswer}
+use Rattle.field.specs.Faults.{isOutside, isTooLarge, polynomialFaults}
 use Rattle.field.proofs.Degrees.{polynomial}
 
--- no number of a refusal is 0
-pub number-not-zero : (r : Refusal) → numberOf r ≡ 0 → ⊥
-number-not-zero PolynomialRange e = let z : _≡_ {A = ℕ} 3 0 = e in omega arith
-number-not-zero Reducible e = let z : _≡_ {A = ℕ} 4 0 = e in omega arith
-number-not-zero OrderRange e = let z : _≡_ {A = ℕ} 5 0 = e in omega arith
-number-not-zero CountRange e = let z : _≡_ {A = ℕ} 6 0 = e in omega arith
-number-not-zero ValueRange e = let z : _≡_ {A = ℕ} 7 0 = e in omega arith
-number-not-zero BadCandidate e = let z : _≡_ {A = ℕ} 8 0 = e in omega arith
-number-not-zero NoRow e = let z : _≡_ {A = ℕ} 9 0 = e in omega arith
+-- ---- 3
 
 outside-false : (p : ℕ) → isOutside p ≡ false → (4 ≤ p) × (p ≤ 511)
 unfolding isOutside
@@ -44,56 +39,59 @@ pub above-range : (p : ℕ) → 511 < p → isOutside p ≡ true
 unfolding isOutside
 above-range p h = ap₂ _||_ (le-ltb p 4 (omega arith)) (lt-ltb 511 p h)
 
--- the chain over the polynomial at each of its faults
-pub over-outside : (p : ℕ) (rest : Answer) → isOutside p ≡ true → refused 3 ≡ overPolynomial p rest
-unfolding overPolynomial
-over-outside p rest e = ap (λ (b : Bool). refuse 3 b (refuse 4 (not (isIrreducible p)) rest)) (sym e)
+-- ---- the faults of a polynomial
 
-pub over-reducible : (p : ℕ) (rest : Answer) → 4 ≤ p → p ≤ 511 → isIrreducible p ≡ false → refused 4 ≡ overPolynomial p rest
-unfolding overPolynomial
-over-reducible p rest l u e = ap₂ (λ (a b : Bool). refuse 3 a (refuse 4 (not b) rest)) (sym (inside p l u)) (sym e)
+pub outside-number : (p : ℕ) → isOutside p ≡ true → firstNumber (polynomialFaults p) ≡ 3
+unfolding polynomialFaults
+outside-number p e = first-taken 3 (isOutside p) _ e
 
--- a polynomial that passes is no fault
-pub over-modulus : (p : ℕ) (rest : Answer) → Modulus p → overPolynomial p rest ≡ rest
-unfolding overPolynomial
-over-modulus p rest h =
-    ap₂ (λ (a b : Bool). refuse 3 a (refuse 4 (not b) rest)) (inside p (h .low) (h .high)) (h .irreducible)
+pub reducible-number : (p : ℕ) → 4 ≤ p → p ≤ 511 → isIrreducible p ≡ false → firstNumber (polynomialFaults p) ≡ 4
+unfolding polynomialFaults
+reducible-number p l u e = first-left 3 (isOutside p) _ (inside p l u) ∙ first-taken 4 (not (isIrreducible p)) [] (ap not e)
 
--- what an accepted degree tells
-pub degree-accepted : (p m : ℕ) → accepted m ≡ degreeAnswer p → Modulus p × (m ≡ degree p)
-unfolding degreeAnswer overPolynomial
-degree-accepted p m e = from (isOutside p) (isIrreducible p) refl refl e
-  where
-    from : (a b : Bool) → isOutside p ≡ a → isIrreducible p ≡ b
-        → accepted m ≡ refuse 3 a (refuse 4 (not b) (accepted (degree p))) → Modulus p × (m ≡ degree p)
-    from true b f g h = let z : _≡_ {A = ℕ} 0 3 = ap (λ (x : Answer). x .number) h in let y : ⊥ = omega arith in absurd y
-    from false false f g h = let z : _≡_ {A = ℕ} 0 4 = ap (λ (x : Answer). x .number) h in let y : ⊥ = omega arith in absurd y
-    from false true f g h =
-        let r = outside-false p f in
-        (record { low = r .0; high = r .1; irreducible = g }, ap (λ (x : Answer). x .value) h)
+-- a polynomial that passes has none of them, and only such a one
+pub modulus-number : (p : ℕ) → Modulus p → firstNumber (polynomialFaults p) ≡ 0
+unfolding polynomialFaults
+modulus-number p h =
+    first-left 3 (isOutside p) _ (inside p (h .low) (h .high)) ∙ first-left 4 (not (isIrreducible p)) [] (ap not (h .irreducible)) ∙ first-empty
 
--- what a refused degree tells: every call over the polynomial is refused so
-pub degree-refused : (p : ℕ) (r : Refusal) (rest : Answer) → refused (numberOf r) ≡ degreeAnswer p → refused (numberOf r) ≡ overPolynomial p rest
-unfolding degreeAnswer overPolynomial
-degree-refused p r rest e = from (isOutside p) (isIrreducible p) e
-  where
-    from : (a b : Bool) → refused (numberOf r) ≡ refuse 3 a (refuse 4 (not b) (accepted (degree p)))
-        → refused (numberOf r) ≡ refuse 3 a (refuse 4 (not b) rest)
-    from true b h = h
-    from false false h = h
-    from false true h = absurd (number-not-zero r (ap (λ (x : Answer). x .number) h))
+pub number-modulus : (p : ℕ) → firstNumber (polynomialFaults p) ≡ 0 → Modulus p
+unfolding polynomialFaults
+number-modulus p e =
+    let (outside, rest) = first-passed 3 0 (isOutside p) _ (λ h. omega arith) e in
+    let (reducible, none) = first-passed 4 0 (not (isIrreducible p)) [] (λ h. omega arith) rest in
+    let range = outside-false p outside in
+    record { low = range .0; high = range .1; irreducible = not-false (isIrreducible p) reducible }
+
+-- the faults behind those of a polynomial that passes decide
+pub modulus-passed : {A : Type 0} (empty value : A) (p : ℕ) (more : List Fault) → Modulus p → answerAfter empty more value ≡ answerAfter empty (polynomialFaults p ++ more) value
+unfolding polynomialFaults numbered
+modulus-passed empty value p more h = after-later empty value (polynomialFaults p) more refl (modulus-number p h)
+
+-- where nothing is told, the polynomial passes, and nothing behind it is told
+pub modulus-parts : (p : ℕ) (more : List Fault) → firstNumber (polynomialFaults p ++ more) ≡ 0 → Modulus p × (firstNumber more ≡ 0)
+modulus-parts p more e =
+    let (polynomial, rest) = first-parts (polynomialFaults p) more (unfold polynomialFaults numbered in refl) e in
+    (number-modulus p polynomial, rest)
+
+-- an accepted degree tells that the polynomial passes
+pub degree-modulus : (o : Outcome) (p w : ℕ) → answerOf o ≡ answerAfter 0 (polynomialFaults p) (degree p) → o ≡ Value w → Modulus p
+degree-modulus o p w e d = number-modulus p (outcome-passed o (polynomialFaults p) (degree p) e w d)
+
+-- a polynomial that passes fits 16 bits
+pub modulus-fits : {p : ℕ} → Modulus p → p < 65536
+modulus-fits h = lt-of-le-of-lt (h .high) (lit< tt)
+
+-- ---- 7
 
 pub not-too-large : (p a : ℕ) → isTooLarge p a ≡ false → a < 2 ^ degree p
 unfolding isTooLarge
 not-too-large p a e = leb-false (2 ^ degree p) a e
 
+-- a field has at most 256 elements
+pub elements-most : (p : ℕ) → Modulus p → 2 ^ degree p ≤ 256
+elements-most p h = pow-mono {j = 8} (polynomial p h .most)
+
 -- an element fits a byte
 pub element-fits : (p a : ℕ) → Modulus p → isTooLarge p a ≡ false → a < 256
-element-fits p a h e = lt-of-lt-of-le (not-too-large p a e) (pow-mono {j = 8} (polynomial p h .most))
-
--- the refusal of a value that is too large, and none
-pub refuse-taken : (n : ℕ) (b : Bool) (rest : Answer) → b ≡ true → refused n ≡ refuse n b rest
-refuse-taken n b rest e = ap (λ (x : Bool). refuse n x rest) (sym e)
-
-pub refuse-left : (n : ℕ) (b : Bool) (rest : Answer) → b ≡ false → rest ≡ refuse n b rest
-refuse-left n b rest e = ap (λ (x : Bool). refuse n x rest) (sym e)
+element-fits p a h e = lt-of-lt-of-le (not-too-large p a e) (elements-most p h)

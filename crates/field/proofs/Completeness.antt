@@ -1,17 +1,18 @@
 -- The table is complete: for 4 ≤ p ≤ 511, p stands in it exactly if it is irreducible; and it holds 1, 2, 3, 6, 9, 18, 30 polynomials by
 -- degree. One computed test and one lemma. Assumes nothing.
 use mathlib.Core.Path.{_≡_, refl, sym, ap, ap₂, _∙_, subst}
-use mathlib.Core.Bool.{Bool, true, false, true≢false}
+use mathlib.Core.Bool.{Bool, true, false}
 use mathlib.Core.List.{List, [], _∷_, _++_, map}
-use mathlib.Core.Logic.{_⊎_, inl, inr, ⊎-elim}
+use mathlib.Core.Logic.{_⊎_, ⊎-elim}
 use Prim.Native.Nat.{ℕ, zero, suc, _+_, _-_, _^_, _≤_, _<_, suc-le-suc}
-use native.Mathlib.Nat.{zero-lt-suc, le-of-suc-le-suc, not-suc-le-zero, eq-or-lt-of-le, add-suc, suc-add, add-zero, zero-add, le-refl}
+use native.Mathlib.Nat.{zero-lt-suc, le-of-suc-le-suc, not-suc-le-zero, eq-or-lt-of-le, add-suc, suc-add, zero-add, le-refl}
 use native.Mathlib.Omega.{arith}
-use lib.Dec.{lit<, lit≤}
+use lib.Dec.{lit≤}
 use lib.Pow.{pow-pos, pow-mono}
 use lib.ListN.{length, getD, take, drop}
 use Rattle.field.specs.Polynomial.{_⊕_, digitsWithin, overDigits, reduce, rem, isIrreducible, someBelow}
-use Rattle.field.specs.Table.{keepIf, passing, polynomials, table, startOf}
+use Rattle.field.specs.Table.{keepIf, passing, polynomials, table}
+use Rattle.field.specs.Steps.{startOf}
 use Rattle.field.proofs.Irreducibility.{trial, trial-is}
 
 -- ---- lists of the numbers that pass a test

@@ -1,15 +1,15 @@
 -- The degree is the place of the highest set bit, and degrees add under the product. Assumes nothing.
 use mathlib.Core.Path.{_≡_, refl, sym, ap, _∙_, subst, subst⁻¹}
-use mathlib.Core.Logic.{_⊎_, inl, inr, ⊎-elim}
+use mathlib.Core.Logic.{_⊎_, ⊎-elim}
 use Prim.Native.Nat.{ℕ, zero, suc, _+_, _-_, _*_, _/_, _%_, _^_, _≤_, _<_}
-use native.Mathlib.Nat.{pow-suc, le-antisymm, le-of-suc-le-suc, lt-of-le-of-lt, lt-of-lt-of-le, lt-of-not-le, not-le-of-lt, zero-add, suc-add, zero-mul, one-mul, le-trans, eq-zero-or-pos, add-comm}
+use native.Mathlib.Nat.{pow-suc, le-antisymm, le-of-suc-le-suc, lt-of-le-of-lt, lt-of-lt-of-le, lt-of-not-le, not-le-of-lt, zero-add, suc-add, zero-mul, one-mul, le-trans, eq-zero-or-pos}
 use native.Mathlib.Decide.{decLe}
 use native.Mathlib.Omega.{arith}
 use lib.Arith.{bin-ind}
-use lib.Pow.{pow-pos, pow-mono, pow-lt}
+use lib.Pow.{pow-pos, pow-mono}
 use Rattle.field.specs.Polynomial.{_⊕_, _⊗_, digitsWithin, overDigits, degree, Modulus}
-use Rattle.field.proofs.Sum.{at-digit, sum-zero-r, sum-comm, sum-lt, sum-top}
-use Rattle.field.proofs.Ring.{digits-suc, product-step, product-zero-l, product-zero-r, product-one-l}
+use Rattle.field.proofs.Sum.{at-digit, sum-comm, sum-lt, sum-top}
+use Rattle.field.proofs.Ring.{digits-suc, product-step, product-one-l}
 
 -- p has degree m: its highest set bit is bit m
 pub record HasDegree (p m : ℕ) : Type 0 where

@@ -1,11 +1,10 @@
 -- Division with remainder: every polynomial is a multiple of p plus its remainder, the remainder is below p in degree, and it is
 -- the only such number. Hence the remainder is linear and kills multiples. Assumes nothing.
 use mathlib.Core.Path.{_≡_, refl, sym, ap, ap₂, _∙_, subst}
-use mathlib.Core.Logic.{_⊎_, inl, inr, ⊎-elim}
-use Prim.Native.Nat.{ℕ, zero, suc, _+_, _*_, _/_, _%_, _^_, _≤_, _<_, min}
-use native.Mathlib.Nat.{pow-suc, mod-lt, zero-lt-suc, zero-min, min-eq-left, min-eq-right, le-of-lt, lt-of-le-of-lt, lt-of-lt-of-le, lt-of-not-le, not-le-of-lt, le-trans, eq-zero-or-pos}
+use mathlib.Core.Logic.{_⊎_, inl, inr}
+use Prim.Native.Nat.{ℕ, zero, suc, _+_, _*_, _/_, _%_, _^_, _≤_, _<_}
+use native.Mathlib.Nat.{pow-suc, mod-lt, zero-lt-suc, zero-min, min-eq-left, min-eq-right, le-of-lt, lt-of-lt-of-le, lt-of-not-le, not-le-of-lt, le-trans}
 use native.Mathlib.Decide.{decLe}
-use native.Mathlib.Omega.{arith}
 use lib.Arith.{bin-ind, digits-lt}
 use lib.Pow.{pow-pos}
 use Rattle.field.specs.Polynomial.{_⊕_, _⊗_, overDigits, digitsWithin, reduce, rem}

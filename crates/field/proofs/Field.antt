@@ -1,9 +1,9 @@
 -- The laws of the field product, for every polynomial p of degree m. Assumes nothing.
-use mathlib.Core.Path.{_≡_, refl, sym, ap, ap₂, _∙_, subst}
-use Prim.Native.Nat.{ℕ, zero, suc, _+_, _*_, _/_, _%_, _^_, _≤_, _<_}
+use mathlib.Core.Path.{_≡_, sym, ap, ap₂, _∙_}
+use Prim.Native.Nat.{ℕ, _+_, _*_, _/_, _%_, _^_, _<_}
 use native.Mathlib.Nat.{zero-mul, one-mul, mul-div-cancel, mul-mod-left, add-zero, zero-lt-suc}
 use Rattle.field.specs.Polynomial.{_⊕_, _⊗_, reduce, rem, product}
-use Rattle.field.proofs.Sum.{at-digit, sum-zero-l, sum-comm}
+use Rattle.field.proofs.Sum.{at-digit}
 use Rattle.field.proofs.Ring.{product-comm, product-assoc, product-sum-l, product-zero-l, product-one-l, product-one-r, product-step-r, product-double-l, product-double-r}
 use Rattle.field.proofs.Degrees.{HasDegree}
 use Rattle.field.proofs.Division.{rem-zero, rem-step, rem-lt, rem-small, rem-sum, rem-product}

@@ -1,10 +1,10 @@
 -- Over an irreducible polynomial every nonzero element has an inverse, exactly one; no product of nonzero elements is 0; squaring is
 -- injective; and the columns of a nonzero element's bit matrix are nonzero. For all degrees together. Assumes nothing.
-use mathlib.Core.Path.{_≡_, refl, sym, ap, ap₂, _∙_, subst}
-use mathlib.Core.Bool.{Bool, true, false, not, _&&_, _||_}
-use mathlib.Core.Logic.{_⊎_, inl, inr, ⊎-elim}
-use Prim.Native.Nat.{ℕ, zero, suc, _+_, _-_, _*_, _/_, _%_, _^_, _≤_, _<_, suc-le-suc, zero-le}
-use native.Mathlib.Nat.{pow-suc, le-trans, le-refl, le-suc, lt-of-lt-of-le, lt-of-le-of-lt, not-le-of-lt, lt-of-not-le, lt-irrefl, le-of-suc-le-suc, not-suc-le-zero, zero-lt-suc, eq-zero-or-pos}
+use mathlib.Core.Path.{_≡_, refl, sym, ap, ap₂, _∙_}
+use mathlib.Core.Bool.{Bool, true, false}
+use mathlib.Core.Logic.{_⊎_, ⊎-elim}
+use Prim.Native.Nat.{ℕ, zero, suc, _-_, _*_, _/_, _^_, _≤_, _<_, suc-le-suc, zero-le}
+use native.Mathlib.Nat.{le-trans, le-refl, le-suc, lt-of-lt-of-le, lt-of-le-of-lt, lt-of-not-le, le-of-suc-le-suc, not-suc-le-zero, zero-lt-suc, eq-zero-or-pos, eq-or-lt-of-le}
 use native.Mathlib.Decide.{decLe}
 use native.Mathlib.Omega.{arith}
 use borrow.Author.Tests.{eq-eqb, ne-eqb}
@@ -13,11 +13,11 @@ use lib.Arith.{bin-ind}
 use lib.Pow.{pow-pos, pow-mono, pow-lt}
 use lib.Count.{ones, ones-step, ones-le}
 use Rattle.field.specs.Polynomial.{_⊕_, _⊗_, degree, rem, Irreducible, product, orNext, firstBelow, inverse, onesInColumns, xorCount}
-use Rattle.field.proofs.Sum.{sum-zero-l, sum-comm, sum-self, sum-move, sum-equal, sum-lt, sums}
-use Rattle.field.proofs.Ring.{product-comm, product-sum-l, product-zero-l, product-one-l, products}
+use Rattle.field.proofs.Sum.{sum-zero-l, sum-move, sum-equal, sum-lt, sums}
+use Rattle.field.proofs.Ring.{product-zero-l, product-one-l, products}
 use Rattle.field.proofs.Degrees.{HasDegree, has-degree}
-use Rattle.field.proofs.Division.{division, rem-lt, rem-sum, rem-multiple, rem-small}
-use Rattle.field.proofs.Field.{times-comm, times-zero-l, times-zero-r, times-assoc, times-one-l, times-one-r, times-rem-r, times-sum-l, times-sum-r, times-lt}
+use Rattle.field.proofs.Division.{division, rem-lt, rem-sum, rem-multiple}
+use Rattle.field.proofs.Field.{times-comm, times-zero-r, times-assoc, times-one-l, times-one-r, times-rem-r, times-sum-l, times-sum-r, times-lt}
 
 -- a nonzero number has a set bit
 ones-positive : (n : ℕ) → 0 < n → 0 < ones n
@@ -149,6 +149,53 @@ first-is (suc n) zero test h e f = ap (λ (b : Bool). orNext b (firstBelow n (λ
 first-is (suc n) (suc k) test h e f =
     ap (λ (b : Bool). orNext b (firstBelow n (λ k. test (suc k)))) (f 0 (zero-lt-suc k))
     ∙ ap suc (first-is n k (λ k. test (suc k)) (le-of-suc-le-suc h) e (λ j l. f (suc j) (suc-le-suc l)))
+
+-- where nothing passes the test, there is no first
+pub first-none : (n : ℕ) (test : ℕ → Bool) → ((j : ℕ) → j < n → test j ≡ false) → firstBelow n test ≡ n
+unfolding firstBelow
+first-none zero test h = refl
+first-none (suc n) test h =
+    ap (λ (b : Bool). orNext b (firstBelow n (λ k. test (suc k)))) (h 0 (zero-lt-suc n))
+    ∙ ap suc (first-none n (λ k. test (suc k)) (λ j l. h (suc j) (suc-le-suc l)))
+
+-- the first of all numbers up to k that passes, or n
+pub first-at : (n k : ℕ) (test : ℕ → Bool) → k ≤ n → (k < n → test k ≡ true) → ((j : ℕ) → j < k → test j ≡ false) → firstBelow n test ≡ k
+first-at n k test l e f =
+    ⊎-elim (λ (q : k ≡ n). first-none n test (λ j h. f j (rw q h)) ∙ sym q) (λ (h : k < n). first-is n k test h (e h) f) (eq-or-lt-of-le l)
+
+-- the first is one of them, or n
+pub first-le : (n : ℕ) (test : ℕ → Bool) → firstBelow n test ≤ n
+unfolding firstBelow
+first-le zero test = le-refl 0
+first-le (suc n) test = at (test 0) (first-le n (λ k. test (suc k)))
+  where
+    at : (b : Bool) {k : ℕ} → k ≤ n → orNext b k ≤ suc n
+    at true l = zero-le
+    at false l = suc-le-suc l
+
+-- nothing before the first passes
+pub first-before : (n : ℕ) (test : ℕ → Bool) (j : ℕ) → j < firstBelow n test → test j ≡ false
+unfolding firstBelow
+first-before zero test j l = absurd (not-suc-le-zero l)
+first-before (suc n) test j l = at (test 0) refl j l (first-before n (λ k. test (suc k)))
+  where
+    at : (b : Bool) → test 0 ≡ b → (j : ℕ) → j < orNext b (firstBelow n (λ k. test (suc k)))
+        → ((i : ℕ) → i < firstBelow n (λ k. test (suc k)) → test (suc i) ≡ false) → test j ≡ false
+    at true e j l rest = absurd (not-suc-le-zero l)
+    at false e zero l rest = e
+    at false e (suc j) l rest = rest j (le-of-suc-le-suc l)
+
+-- the first passes, if there is one
+pub first-there : (n : ℕ) (test : ℕ → Bool) → firstBelow n test < n → test (firstBelow n test) ≡ true
+unfolding firstBelow
+first-there zero test l = absurd (not-suc-le-zero l)
+first-there (suc n) test l = at (test 0) refl l (first-there n (λ k. test (suc k)))
+  where
+    at : (b : Bool) → test 0 ≡ b → orNext b (firstBelow n (λ k. test (suc k))) < suc n
+        → (firstBelow n (λ k. test (suc k)) < n → test (suc (firstBelow n (λ k. test (suc k)))) ≡ true)
+        → test (orNext b (firstBelow n (λ k. test (suc k)))) ≡ true
+    at true e l rest = e
+    at false e l rest = rest (le-of-suc-le-suc l)
 
 -- the inverse is the first element that passes
 pub inverse-is : (p a b : ℕ) → b < 2 ^ degree p → product p a b ≡ 1 → ((k : ℕ) → k < b → product p a k ≡ 1 → ⊥) → inverse p a ≡ b

@@ -2,14 +2,14 @@
 -- Assumes nothing.
 use mathlib.Core.Path.{_≡_, refl, sym, ap, ap₂, _∙_, subst}
 use mathlib.Core.Bool.{Bool, true, false, not, _&&_, _||_, or-true, true≢false}
-use mathlib.Core.Logic.{_⊎_, inl, inr, ⊎-elim}
-use Prim.Native.Nat.{ℕ, zero, suc, _+_, _*_, _/_, _%_, _^_, _≤_, _<_}
-use native.Mathlib.Nat.{pow-suc, add-comm, le-trans, le-refl, le-suc, lt-of-lt-of-le, lt-of-le-of-lt, le-of-lt, not-suc-le-zero, eq-or-lt-of-le, le-of-suc-le-suc, lt-of-not-le}
+use mathlib.Core.Logic.{_⊎_, ⊎-elim}
+use Prim.Native.Nat.{ℕ, zero, suc, _+_, _^_, _≤_, _<_}
+use native.Mathlib.Nat.{le-trans, le-refl, le-suc, lt-of-lt-of-le, lt-of-le-of-lt, not-suc-le-zero, eq-or-lt-of-le, le-of-suc-le-suc, lt-of-not-le}
 use native.Mathlib.Decide.{decLe}
 use native.Mathlib.Omega.{arith}
 use borrow.Author.Tests.{le-leb, eq-eqb, ne-eqb, leb-true, eqb-true, eqb-false, not-true, not-false}
 use lib.Dec.{leb, eqb}
-use lib.Pow.{pow-mono, pow-pos}
+use lib.Pow.{pow-mono}
 use Rattle.field.specs.Polynomial.{_⊕_, _⊗_, degree, rem, Irreducible, isIrreducible, someBelow}
 use Rattle.field.proofs.Sum.{sum-zero-r}
 use Rattle.field.proofs.Ring.{product-comm, product-zero-l, product-one-l}

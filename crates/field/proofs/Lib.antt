@@ -8,4 +8,3 @@ pub mod Inverses
 pub mod Irreducibility
 pub mod Completeness
 pub mod Calls
-pub mod Lines

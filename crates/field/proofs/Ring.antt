@@ -1,15 +1,12 @@
 -- The polynomials over two elements are a commutative ring, and degrees add. Assumes nothing.
-use mathlib.Core.Path.{_≡_, refl, sym, ap, ap₂, _∙_, subst}
-use mathlib.Core.Logic.{_⊎_, inl, inr, ⊎-elim}
-use Prim.Native.Nat.{ℕ, zero, suc, _+_, _*_, _/_, _%_, _^_, _≤_, _<_}
-use native.Mathlib.Nat.{add-zero, add-suc, pow-suc, mul-div-cancel, mul-mod-left, mul-zero, mod-lt, mod-eq-of-lt, div-eq-of-lt, zero-lt-suc, zero-mul, one-mul, mul-one, mul-assoc, div-add-mod', lt-of-not-le, not-le-of-lt, not-suc-le-zero, le-trans, le-refl, lt-of-lt-of-le}
+use mathlib.Core.Path.{_≡_, refl, sym, ap, ap₂, _∙_}
+use Prim.Native.Nat.{ℕ, zero, suc, _*_, _/_, _%_, _≤_}
+use native.Mathlib.Nat.{mul-div-cancel, mul-mod-left, mul-zero, mod-lt, zero-lt-suc, zero-mul, one-mul, mul-one, mul-assoc, div-add-mod', not-suc-le-zero, le-refl}
 use native.Mathlib.Decide.{le-ind}
-use native.Mathlib.Omega.{arith}
-use lib.Arith.{bin-ind, half-le, lt-one}
+use lib.Arith.{bin-ind, half-le}
 use lib.Bits.{differ}
-use lib.Pow.{pow-pos, pow-mono}
 use Rattle.field.specs.Polynomial.{_⊕_, _⊗_, digitsWithin, overDigits}
-use Rattle.field.proofs.Sum.{at-digit, sum-zero-l, sum-zero-r, sum-comm, sum-assoc, sum-self, sum-half, sum-digit, sum-double, sum-low, sum-lt, sum-top, sum-equal, sums}
+use Rattle.field.proofs.Sum.{at-digit, sum-zero-l, sum-zero-r, sum-comm, sum-self, sum-half, sum-digit, sum-double, sum-low, sums}
 
 -- ---- recursion over the digits
 

@@ -2,12 +2,12 @@
 use mathlib.Core.Path.{_≡_, refl, sym, ap, ap₂, _∙_, subst}
 use mathlib.Core.Logic.{_⊎_, inl, inr, ⊎-elim}
 use Prim.Native.Nat.{ℕ, zero, suc, _+_, _*_, _/_, _%_, _^_, _≤_, _<_}
-use native.Mathlib.Nat.{add-zero, pow-suc, div-eq-of-lt-le, div-lt-iff-lt-mul, mul-div-cancel, mul-mod-left, mod-lt, zero-lt-suc, zero-mul, one-mul, div-add-mod', lt-of-not-le, not-le-of-lt, le-trans}
+use native.Mathlib.Nat.{add-zero, pow-suc, div-eq-of-lt-le, div-lt-iff-lt-mul, mul-div-cancel, mul-mod-left, mod-lt, zero-lt-suc, one-mul, lt-of-not-le, not-le-of-lt}
 use native.Mathlib.Decide.{decLe}
 use native.Mathlib.Omega.{arith}
-use lib.Arith.{bin-ind, digits-mod, lt-one}
+use lib.Arith.{bin-ind, digits-mod}
 use lib.Pow.{pow-pos}
-use lib.Bits.{bitXor, differ, xor-step, xor-zero-l, xor-zero-r, xor-comm, xor-self, xor-lt, xor-shr, xor-shifted, xor-block}
+use lib.Bits.{differ, xor-step, xor-zero-l, xor-zero-r, xor-comm, xor-self, xor-lt, xor-shr, xor-shifted}
 use Rattle.field.specs.Polynomial.{_⊕_}
 
 -- ---- digits

@@ -1,5 +1,5 @@
--- The definitions that the contracts of `field` cite.
+-- The definitions that the contracts of `field` cite. To be believed: all but Steps.
 pub mod Polynomial
 pub mod Table
-pub mod Outcome
-pub mod Reference
+pub mod Faults
+pub mod Steps

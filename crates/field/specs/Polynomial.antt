@@ -3,7 +3,7 @@
 -- Assumes nothing.
 use mathlib.Core.Path.{_≡_}
 use mathlib.Core.Bool.{Bool, true, false, not, _&&_, _||_}
-use Prim.Native.Nat.{ℕ, zero, suc, _+_, _-_, _*_, _/_, _%_, _^_, _≤_, _<_, min}
+use Prim.Native.Nat.{ℕ, zero, suc, _+_, _-_, _*_, _/_, _%_, _^_, _≤_, min}
 use lib.Bits.{bitXor}
 use lib.Count.{ones}
 use lib.Dec.{eqb, leb}
@@ -51,7 +51,7 @@ unfoldable pub someBelow : ℕ → (ℕ → Bool) → Bool
 someBelow zero test = false
 someBelow (suc n) test = test n || someBelow n test
 
--- the same as a test: a factor of p with a cofactor of degree 1 or more is below p
+-- irreducible, as a test: a factor of p with a cofactor of degree 1 or more is below p
 unfoldable pub isIrreducible : ℕ → Bool
 isIrreducible p = not (someBelow p (λ a. someBelow p (λ b. leb 2 a && leb 2 b && eqb (a ⊗ b) p)))
 

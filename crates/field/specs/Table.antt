@@ -1,8 +1,7 @@
 -- The irreducible polynomials of degrees 2 to 8. Assumes nothing.
 use mathlib.Core.Bool.{Bool, true, false}
-use mathlib.Core.List.{List, [], _∷_, _++_}
+use mathlib.Core.List.{List, [], _∷_}
 use Prim.Native.Nat.{ℕ, zero, suc, _^_}
-use lib.ListN.{getD}
 use Rattle.field.specs.Polynomial.{isIrreducible}
 
 -- a number before the rest, where it passed the test
@@ -29,7 +28,3 @@ table =
     67 ∷ 73 ∷ 87 ∷ 91 ∷ 97 ∷ 103 ∷ 109 ∷ 115 ∷ 117 ∷
     131 ∷ 137 ∷ 143 ∷ 145 ∷ 157 ∷ 167 ∷ 171 ∷ 185 ∷ 191 ∷ 193 ∷ 203 ∷ 211 ∷ 213 ∷ 229 ∷ 239 ∷ 241 ∷ 247 ∷ 253 ∷
     283 ∷ 285 ∷ 299 ∷ 301 ∷ 313 ∷ 319 ∷ 333 ∷ 351 ∷ 355 ∷ 357 ∷ 361 ∷ 369 ∷ 375 ∷ 379 ∷ 391 ∷ 395 ∷ 397 ∷ 415 ∷ 419 ∷ 425 ∷ 433 ∷ 445 ∷ 451 ∷ 463 ∷ 471 ∷ 477 ∷ 487 ∷ 499 ∷ 501 ∷ 505 ∷ []
-
--- where the polynomials of degree m begin in the table
-unfoldable pub startOf : ℕ → ℕ
-startOf m = getD (0 ∷ 0 ∷ 0 ∷ 1 ∷ 3 ∷ 6 ∷ 12 ∷ 21 ∷ 39 ∷ 69 ∷ []) m 69

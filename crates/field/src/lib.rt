@@ -5,8 +5,12 @@ ghost use mathlib.Core.Path.{_≡_};
 ghost use mathlib.Core.Bool.{_||_};
 ghost use Prim.Native.Nat.{_*_, _^_, _≤_, _<_};
 ghost use lib.Dec.{eqb};
-ghost use Rattle.field.specs.Outcome.{answerOf, accepted, refuse, isTooLarge, degreeAnswer, productAnswer, inverseAnswer, countAnswer};
+ghost use mathlib.Core.List.{[], _∷_, _++_};
+ghost use Rattle.refusal.specs.Refusals.{fault, answerAfter, answerOf};
+ghost use Rattle.field.specs.Faults.{isTooLarge, polynomialFaults};
 ghost use Rattle.field.specs.Polynomial.{Modulus, degree, isIrreducible, reduce, rem, product, inverse, xorCount};
+use refusal::Outcome;
+use refusal::Refusal;
 
 // The irreducible polynomials, grouped by degree: 1, 2, 3, 6, 9, 18 and 30 of degrees 2 to 8.
 pub const TABLE: [u16; 69] = [
@@ -173,26 +177,9 @@ pub fn xor_count(p: u16, a: u8) -> u16
     ones - m
 }
 
-// Why a call is refused. The definition `numberOf` gives the number of each reason.
-pub enum Refusal {
-    PolynomialRange,
-    Reducible,
-    OrderRange,
-    CountRange,
-    ValueRange,
-    BadCandidate,
-    NoRow,
-}
-
-// What a call yields.
-pub enum Outcome {
-    Value(u32),
-    Refused(Refusal),
-}
-
 // The degree of a polynomial that is in range and irreducible.
 pub fn checked_degree(p: u32) -> Outcome
-    ensures { λ r. ⌜ answerOf r ≡ degreeAnswer p ⌝ }
+    ensures { λ r. ⌜ answerOf r ≡ answerAfter 0 (polynomialFaults p) (degree p) ⌝ }
 {
     if p < 4 {
         return Outcome::Refused(Refusal::PolynomialRange);
@@ -218,7 +205,7 @@ pub fn too_large(p: u16, a: u32) -> bool
 
 // The product of two elements of the field.
 pub fn checked_product(p: u32, a: u32, b: u32) -> Outcome
-    ensures { λ r. ⌜ answerOf r ≡ productAnswer p a b ⌝ }
+    ensures { λ r. ⌜ answerOf r ≡ answerAfter 0 (polynomialFaults p ++ fault 7 (isTooLarge p a || isTooLarge p b) ∷ []) (product p a b) ⌝ }
 {
     match checked_degree(p) {
         Outcome::Refused(r) => Outcome::Refused(r),
@@ -228,7 +215,7 @@ pub fn checked_product(p: u32, a: u32, b: u32) -> Outcome
 
 fn product_over(p: u16, a: u32, b: u32) -> Outcome
     requires { ⌜ Modulus p ⌝ }
-    ensures { λ r. ⌜ answerOf r ≡ refuse 7 (isTooLarge p a || isTooLarge p b) (accepted (product p a b)) ⌝ }
+    ensures { λ r. ⌜ answerOf r ≡ answerAfter 0 (fault 7 (isTooLarge p a || isTooLarge p b) ∷ []) (product p a b) ⌝ }
 {
     if too_large(p, a) {
         return Outcome::Refused(Refusal::ValueRange);
@@ -241,7 +228,7 @@ fn product_over(p: u16, a: u32, b: u32) -> Outcome
 
 // The inverse of a nonzero element.
 pub fn checked_inverse(p: u32, a: u32) -> Outcome
-    ensures { λ r. ⌜ answerOf r ≡ inverseAnswer p a ⌝ }
+    ensures { λ r. ⌜ answerOf r ≡ answerAfter 0 (polynomialFaults p ++ fault 7 (isTooLarge p a) ∷ fault 8 (eqb a 0) ∷ []) (inverse p a) ⌝ }
 {
     match checked_degree(p) {
         Outcome::Refused(r) => Outcome::Refused(r),
@@ -251,7 +238,7 @@ pub fn checked_inverse(p: u32, a: u32) -> Outcome
 
 fn inverse_over(p: u16, a: u32) -> Outcome
     requires { ⌜ Modulus p ⌝ }
-    ensures { λ r. ⌜ answerOf r ≡ refuse 7 (isTooLarge p a) (refuse 8 (eqb a 0) (accepted (inverse p a))) ⌝ }
+    ensures { λ r. ⌜ answerOf r ≡ answerAfter 0 (fault 7 (isTooLarge p a) ∷ fault 8 (eqb a 0) ∷ []) (inverse p a) ⌝ }
 {
     if too_large(p, a) {
         return Outcome::Refused(Refusal::ValueRange);
@@ -264,7 +251,7 @@ fn inverse_over(p: u16, a: u32) -> Outcome
 
 // The XOR count of an element.
 pub fn checked_xor_count(p: u32, a: u32) -> Outcome
-    ensures { λ r. ⌜ answerOf r ≡ countAnswer p a ⌝ }
+    ensures { λ r. ⌜ answerOf r ≡ answerAfter 0 (polynomialFaults p ++ fault 7 (isTooLarge p a) ∷ []) (xorCount p a) ⌝ }
 {
     match checked_degree(p) {
         Outcome::Refused(r) => Outcome::Refused(r),
@@ -274,7 +261,7 @@ pub fn checked_xor_count(p: u32, a: u32) -> Outcome
 
 fn xor_count_over(p: u16, a: u32) -> Outcome
     requires { ⌜ Modulus p ⌝ }
-    ensures { λ r. ⌜ answerOf r ≡ refuse 7 (isTooLarge p a) (accepted (xorCount p a)) ⌝ }
+    ensures { λ r. ⌜ answerOf r ≡ answerAfter 0 (fault 7 (isTooLarge p a) ∷ []) (xorCount p a) ⌝ }
 {
     if too_large(p, a) {
         return Outcome::Refused(Refusal::ValueRange);

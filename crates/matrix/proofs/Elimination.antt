@@ -1,57 +1,38 @@
 -- The elimination on arrays of arrays: the pivot, the lines left without it, and the entries of the cleared block. Assumes nothing.
 use mathlib.Core.Path.{_≡_, refl, sym, ap, _∙_}
-use mathlib.Core.Bool.{Bool, true, false, not, cond}
+use mathlib.Core.Bool.{Bool, true, false, not}
 use mathlib.Core.List.{List}
-use Prim.Native.Nat.{ℕ, zero, suc, _+_, _-_, _^_, _≤_, _<_, suc-le-suc}
-use native.Mathlib.Nat.{not-suc-le-zero, le-of-suc-le-suc, zero-lt-suc}
-use native.Mathlib.Numerals.{add-one}
+use mathlib.Core.Logic.{⊎-elim}
+use Prim.Native.Nat.{ℕ, zero, suc, _-_, _^_, _<_}
+use native.Mathlib.Nat.{not-suc-le-zero, eq-or-lt-of-le}
 use native.Mathlib.Omega.{arith}
-use borrow.Author.Count.{below-more}
+use borrow.Author.Tests.{eqb-true, not-true, not-false}
 use lib.Dec.{eqb}
-use lib.ListN.{length, getD, set}
-use lib.Seq.{getD-set-same, getD-set-other}
 use Rattle.algebra.specs.Matrix.{skip}
-use Rattle.algebra.proofs.Kernel.{firstLine, First, firstLine-first, cleared, hasKernel, hasKernel-none, hasKernel-step, hasKernel-cong}
-use Rattle.field.specs.Polynomial.{_⊕_, Modulus, degree, product, orNext, firstBelow}
+use Rattle.algebra.specs.Steps.{hasKernel, clearedLine, cleared}
+use Rattle.algebra.proofs.Bridge.{hasKernel-cong}
+use Rattle.algebra.proofs.Kernel.{hasKernel-empty}
+use Rattle.field.specs.Polynomial.{Modulus, degree, product, firstBelow}
 use Rattle.field.proofs.Sum.{sum-lt}
 use Rattle.field.proofs.Degrees.{polynomial}
 use Rattle.field.proofs.Field.{times-lt}
-use Rattle.matrix.specs.Numbers.{numbers, entry}
-
--- ---- the pivot
-
--- where nothing passes the test, there is no first
-pub first-none : (n : ℕ) (test : ℕ → Bool) → ((j : ℕ) → j < n → test j ≡ false) → firstBelow n test ≡ n
-unfolding firstBelow
-first-none zero test h = refl
-first-none (suc n) test h =
-    ap (λ (b : Bool). orNext b (firstBelow n (λ k. test (suc k)))) (h 0 (zero-lt-suc n))
-    ∙ ap suc (first-none n (λ k. test (suc k)) (λ j l. h (suc j) (suc-le-suc l)))
-
--- the elimination's first line, as a first number that passes a test
-line-below : (p r : ℕ) (u : ℕ → ℕ) → firstLine (numbers p) r u ≡ firstBelow r (λ i. not (eqb (u i) 0))
-unfolding firstLine firstBelow
-line-below p zero u = refl
-line-below p (suc r) u = at (eqb (u 0) 0) (line-below p r (λ i. u (suc i)))
-  where
-    at : (b : Bool) {x y : ℕ} → x ≡ y → cond b (suc x) zero ≡ orNext (not b) y
-    at true e = ap suc e
-    at false e = refl
-
--- so that number is the pivot's
-pub pivot-first : (p r : ℕ) (u : ℕ → ℕ) (k : ℕ) → k ≡ firstBelow r (λ i. not (eqb (u i) 0)) → First (numbers p) r u k
-pivot-first p r u k e = rw (e ∙ sym (line-below p r u)) (firstLine-first (numbers p) r u)
+use Rattle.field.proofs.Inverses.{first-le, first-before, first-there}
+use Rattle.matrix.specs.Numbers.{numbers, elements, entry}
+use Rattle.matrix.specs.Steps.Conditions.{InField}
+use Rattle.matrix.specs.Steps.Blocks.{filled, framed}
+use Rattle.matrix.proofs.Filled.{entry-of}
+use Rattle.matrix.proofs.Theorems.{kernel-free, kernel-step}
 
 -- ---- the cleared block
 
--- an entry, by the pivot's line v and the line u
-pub cleared-entry : (p : ℕ) (m : List (List ℕ)) (k i j l x : ℕ) → l ≡ skip k i
-    → x ≡ product p (entry m k 0) (entry m l (j + 1)) ⊕ product p (entry m l 0) (entry m k (j + 1)) → x ≡ cleared (numbers p) (entry m) k i j
+-- line i of it, by the pivot's line and line l
+pub cleared-as : (p : ℕ) (m : List (List ℕ)) (k i l n : ℕ) (x : List ℕ) → l ≡ skip k i
+    → x ≡ filled 0 (clearedLine (numbers p) (entry m k) (entry m l)) n → x ≡ filled 0 (cleared (numbers p) (entry m) k i) n
 unfolding cleared
-cleared-entry p m k i j l x e f = f ∙ rw (e, add-one j) refl
+cleared-as p m k i l n x e f = f ∙ rw e refl
 
--- the entries of the cleared block are elements
-pub cleared-lt : (p : ℕ) → Modulus p → (f : ℕ → ℕ → ℕ) (k i j : ℕ) → cleared (numbers p) f k i j < 2 ^ degree p
+-- its entries are elements
+cleared-lt : (p : ℕ) → Modulus p → (f : ℕ → ℕ → ℕ) (k i j : ℕ) → cleared (numbers p) f k i j < 2 ^ degree p
 unfolding cleared
 cleared-lt p h f k i j =
     let d = polynomial p h .has in
@@ -61,23 +42,47 @@ cleared-lt p h f k i j =
 
 -- ---- the recursion
 
--- no column
-pub kernel-empty : (p c r : ℕ) (f : ℕ → ℕ → ℕ) → c ≡ 0 → hasKernel (numbers p) c r f ≡ false
-unfolding hasKernel
-kernel-empty p c r f e = rw e refl
+module _ (p : ℕ) (h : Modulus p) (r : ℕ) (m : List (List ℕ)) where
+  -- whether c columns of the block send an input that is not zero to zero
+  abbrev Answers : ℕ → Bool → Type 0
+  Answers c b = b ≡ hasKernel (numbers p) (elements p) c r (entry m)
 
--- no line has an entry in column 0
-pub kernel-free : (p c r : ℕ) (f : ℕ → ℕ → ℕ) → 0 < c → First (numbers p) r (λ i. f i 0) r → hasKernel (numbers p) c r f ≡ true
-kernel-free p zero r f l h = absurd (not-suc-le-zero l)
-kernel-free p (suc c) r f l h = hasKernel-none (numbers p) c r f h
+  -- no column
+  pub kernel-empty : (c : ℕ) → c ≡ 0 → Answers c false
+  kernel-empty c e = sym (ap (λ (n : ℕ). hasKernel (numbers p) (elements p) n r (entry m)) e ∙ hasKernel-empty (numbers p) (elements p) r (entry m))
 
--- line k has one, and g is the block cleared by it
-pub kernel-cleared : (p c r : ℕ) (f g : ℕ → ℕ → ℕ) (k : ℕ) → 0 < c → k < r → First (numbers p) r (λ i. f i 0) k
-    → ((i j : ℕ) → i + 1 < r → j + 1 < c → g i j ≡ cleared (numbers p) f k i j)
-    → hasKernel (numbers p) (c - 1) (r - 1) g ≡ hasKernel (numbers p) c r f
-kernel-cleared p zero r f g k l m h e = absurd (not-suc-le-zero l)
-kernel-cleared p (suc c) r f g k l m h e =
-    let one : suc c - 1 ≡ c = omega arith in
-    rw one
-    (hasKernel-cong (numbers p) c (r - 1) g (cleared (numbers p) f k) (λ i j a b. e i j (omega arith) (omega arith))
-    ∙ sym (hasKernel-step (numbers p) c r f k h m))
+  -- the pivot's line k
+  module _ (k : ℕ) (first : k ≡ firstBelow r (λ i. not (eqb (entry m i 0) 0))) where
+    -- there is none
+    pub pivot-none : (c : ℕ) → 0 < c → InField p r c m → k ≡ r → Answers c true
+    unfolding InField
+    pivot-none zero l inside e = absurd (not-suc-le-zero l)
+    pivot-none (suc c) l inside e =
+        sym (kernel-free p h c r (entry m) inside (λ i g.
+        eqb-true (entry m i 0) 0 (not-false _ (first-before r (λ i. not (eqb (entry m i 0) 0)) i (omega arith)))))
+
+    -- it is one of the lines
+    pub pivot-lt : (k ≡ r → ⊥) → k < r
+    pivot-lt d = ⊎-elim (λ e. absurd (d e)) (λ l. l) (eq-or-lt-of-le (rw first (first-le r (λ i. not (eqb (entry m i 0) 0)))))
+
+    -- and clears the others: b is the block that is left
+    module _ (b : List (List ℕ)) (c : ℕ) (cleared-is : b ≡ framed (r - 1) (c - 1) (cleared (numbers p) (entry m) k)) where
+      entries : (i j : ℕ) → i < r - 1 → j < c - 1 → entry b i j ≡ cleared (numbers p) (entry m) k i j
+      entries = entry-of (r - 1) (c - 1) (cleared (numbers p) (entry m) k) b cleared-is
+
+      pub cleared-in-field : InField p (r - 1) (c - 1) b
+      unfolding InField
+      cleared-in-field i j l n = rw (entries i j l n) (cleared-lt p h (entry m) k i j)
+
+    pub pivot-step : (b : List (List ℕ)) (c : ℕ) → b ≡ framed (r - 1) (c - 1) (cleared (numbers p) (entry m) k) → 0 < c → InField p r c m → (k ≡ r → ⊥)
+        → (t : Bool) → t ≡ hasKernel (numbers p) (elements p) (c - 1) (r - 1) (entry b) → Answers c t
+    unfolding InField
+    pivot-step b zero e l inside d t q = absurd (not-suc-le-zero l)
+    pivot-step b (suc c) e l inside d t q =
+        let one : suc c - 1 ≡ c = omega arith in
+        (rw one at q)
+        ∙ hasKernel-cong (numbers p) (elements p) c (r - 1) (entry b) (cleared (numbers p) (entry m) k) (rw one at (entries b (suc c) e))
+        ∙ sym (kernel-step p h c r (entry m) inside k (pivot-lt d) (not-true _ there))
+      where
+        there : not (eqb (entry m k 0) 0) ≡ true
+        there = rw first (first-there r (λ i. not (eqb (entry m i 0) 0)) (rw (← first) (pivot-lt d)))

@@ -8,7 +8,7 @@ pub mod Halving
 pub mod Minors
 pub mod Selections
 pub mod Regularity
-pub mod Judging
+pub mod CallFaults
 pub mod Tallies
 pub mod Elimination
 pub mod Trials

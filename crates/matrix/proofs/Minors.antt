@@ -15,7 +15,10 @@ use Rattle.field.specs.Polynomial.{Modulus, degree, product, _⊕_}
 use Rattle.field.proofs.Sum.{sum-zero-l}
 use Rattle.field.proofs.Degrees.{polynomial}
 use Rattle.field.proofs.Field.{times-one-r}
-use Rattle.matrix.specs.Numbers.{numbers, entry, InField}
+use Rattle.matrix.specs.Numbers.{numbers, entry}
+use Rattle.matrix.specs.Steps.Conditions.{InField}
+use Rattle.matrix.specs.Steps.Blocks.{framed}
+use Rattle.matrix.proofs.Filled.{entry-of}
 
 -- ---- a line without a column
 
@@ -74,7 +77,7 @@ det-single p f h l = sym (sum-zero-l (product p (f 0 0) 1) ∙ times-one-r p (de
 
 -- the entries of the block left are elements
 pub minor-in-field : (p n j : ℕ) (block r : List (List ℕ)) → 1 ≤ n → n ≤ 8 → InField p n n block
-    → ((i k : ℕ) → i + 1 < n → k < 7 → entry r i k ≡ without (entry block) j i k) → InField p (n - 1) (n - 1) r
+    → r ≡ framed (n - 1) 7 (without (entry block) j) → InField p (n - 1) (n - 1) r
 unfolding InField without
 minor-in-field p n j block r low high inside e i k l m =
-    rw (e i k (omega arith) (omega arith)) (inside (suc i) (skip j k) (omega arith) (omega (arith, skip-lt j k (n - 1) m)))
+    rw (entry-of (n - 1) 7 (without (entry block) j) r e i k l (omega arith)) (inside (suc i) (skip j k) (omega arith) (omega (arith, skip-lt j k (n - 1) m)))

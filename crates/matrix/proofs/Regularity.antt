@@ -1,68 +1,124 @@
 -- The choices of k lines and of k columns, and the test that the blocks of all these choices are regular. Assumes nothing.
-use mathlib.Core.Path.{_≡_, refl, sym, ap, ap₂, _∙_, subst}
-use mathlib.Core.Bool.{Bool, true, false, not, _&&_, _||_}
+use mathlib.Core.Path.{_≡_, refl, sym, ap, _∙_}
+use mathlib.Core.Bool.{Bool, true, false, not, _&&_, _||_, and-false, or-true, true≢false}
 use mathlib.Core.List.{List, []}
 use mathlib.Core.Logic.{⊎-elim}
-use Prim.Native.Nat.{ℕ, zero, suc, _+_, _*_, _%_, _^_, _≤_, _<_}
-use native.Mathlib.Nat.{not-suc-le-zero, le-refl, le-suc, le-trans, le-antisymm, le-of-suc-le-suc, lt-of-lt-of-le, eq-or-lt-of-le, one-mul, mod-eq-of-lt}
+use Prim.Native.Nat.{ℕ, zero, suc, _+_, _-_, _*_, _/_, _%_, _^_, _≤_, _<_, zero-le}
+use native.Mathlib.Nat.{not-suc-le-zero, lt-of-lt-of-le, mul-suc}
+use native.Mathlib.Numerals.{add-one}
 use native.Mathlib.Omega.{arith}
-use borrow.Author.Tests.{eq-eqb, ne-eqb, eqb-true}
+use borrow.Author.Count.{below-more}
+use borrow.Author.Tests.{eq-eqb, ne-eqb, eqb-true, eqb-false, leb-false, le-leb, lt-leb}
 use lib.Count.{ones}
-use lib.Dec.{eqb}
+use lib.Dec.{eqb, leb}
 use lib.Pow.{pow-mono}
-use lib.ListN.{length, getD}
-use Rattle.algebra.specs.Matrix.{det, chosen, block}
+use lib.ListN.{length, getD, replicate}
+use Rattle.algebra.specs.Matrix.{det}
+use Rattle.algebra.specs.Steps.{chosen, block}
 use Rattle.algebra.proofs.Sums.{le-or-lt}
 use Rattle.algebra.proofs.Bridge.{det-cong}
 use Rattle.algebra.proofs.Choices.{chosen-lt}
-use Rattle.matrix.specs.Numbers.{numbers, entry, InField}
-use Rattle.matrix.specs.Regular.{everyBelow, isRegularBlock, regularOfSize}
-use Rattle.matrix.specs.Choice.{NextChoice}
-use Rattle.matrix.proofs.Selections.{ones-none, chosen-ones, selection}
+use Rattle.matrix.specs.Numbers.{numbers, entry}
+use Rattle.matrix.specs.Steps.Conditions.{InField}
+use Rattle.field.specs.Polynomial.{firstBelow}
+use Rattle.field.proofs.Inverses.{first-at, first-before, first-there}
+use Rattle.matrix.specs.Steps.Regular.{isRegularBlock, regularOfSize}
+use Rattle.matrix.specs.Steps.Blocks.{filled, framed}
+use Rattle.matrix.specs.Steps.Choice.{nextChoice}
+use Rattle.matrix.proofs.Squares.{each-every, every-not}
+use Rattle.matrix.proofs.Selections.{ones-none, chosen-ones, shifted, line-chosen, column-chosen}
 
--- ---- from one choice to the next
+-- ---- steps
 
--- a step leads to the next mask of the same remainder
+-- a step is 1 or 2
+by-step : (P : ℕ → Type 0) → P 1 → P 2 → (step : ℕ) → 1 ≤ step → step ≤ 2 → P step
+by-step P x y zero a b = absurd (not-suc-le-zero a)
+by-step P x y (suc zero) a b = x
+by-step P x y (suc (suc zero)) a b = y
+by-step P x y (suc (suc (suc n))) a b = let z : ⊥ = omega arith in absurd z
+
+-- steps lead to masks of the same remainder
+steps-on : (step r t : ℕ) → 1 ≤ step → step ≤ 2 → (r + step * t) % step ≡ r % step
+steps-on step r t = by-step (λ d. (r + d * t) % d ≡ r % d) (omega arith) (omega arith) step
+
 step-on : (step r : ℕ) → 1 ≤ step → step ≤ 2 → (r + step) % step ≡ r % step
-step-on zero r a b = absurd (not-suc-le-zero a)
-step-on (suc zero) r a b = omega arith
-step-on (suc (suc zero)) r a b = omega arith
-step-on (suc (suc (suc n))) r a b = let z : ⊥ = omega arith in absurd z
+step-on step r = by-step (λ d. (r + d) % d ≡ r % d) (omega arith) (omega arith) step
 
 -- there is none between
 within-step : (step r s : ℕ) → 1 ≤ step → step ≤ 2 → r ≤ s → s < r + step → s % step ≡ r % step → s ≡ r
-within-step zero r s a b l h e = absurd (not-suc-le-zero a)
-within-step (suc zero) r s a b l h e = omega arith
-within-step (suc (suc zero)) r s a b l h e = omega arith
-within-step (suc (suc (suc n))) r s a b l h e = let z : ⊥ = omega arith in absurd z
+within-step step r s =
+    by-step (λ d. r ≤ s → s < r + d → s % d ≡ r % d → s ≡ r) (λ l h e. omega arith) (λ l h e. omega arith) step
+
+-- and each of them is met
+steps-to : (step r s n : ℕ) → 1 ≤ step → step ≤ 2 → r ≤ s → s < r + step * n → s % step ≡ r % step → (t : ℕ) × (t < n) × (s ≡ r + step * t)
+steps-to step r s n =
+    by-step (λ d. r ≤ s → s < r + d * n → s % d ≡ r % d → (t : ℕ) × (t < n) × (s ≡ r + d * t))
+    (λ l h e. (s - r, omega arith, omega arith)) (λ l h e. ((s - r) / 2, omega arith, omega arith)) step
+
+-- no more steps than what they add up to
+steps-le : (step t : ℕ) → 1 ≤ step → step ≤ 2 → t ≤ step * t
+steps-le step t = by-step (λ d. t ≤ d * t) (omega arith) (omega arith) step
 
 -- what holds of the masks before r, and of r, holds of those before r + step
 on-by-step : (P : ℕ → Type 0) (step r : ℕ) → 1 ≤ step → step ≤ 2 → ((s : ℕ) → s < r → P s) → P r → (s : ℕ) → s < r + step → s % step ≡ r % step → P s
 on-by-step P step r a b before now s h e =
     ⊎-elim (λ (l : r ≤ s). rw (within-step step r s a b l h e) now) (λ (l : s < r). before s l) (le-or-lt r s)
 
--- the masks from, from + step, .. before r have not k ones, and are below `end`
+-- ---- the next choice
+
+-- whether the search for it stops after t steps
+abbrev stops : ℕ → ℕ → ℕ → ℕ → ℕ → Bool
+stops from step end k t = leb end (from + step * t) || eqb (ones (from + step * t)) k
+
+-- where it does not, the mask is below `end` and has not k ones
+stops-not : (from step end k t : ℕ) → stops from step end k t ≡ false → (from + step * t < end) × (ones (from + step * t) ≡ k → ⊥)
+stops-not from step end k t = at (leb end (from + step * t)) refl
+  where
+    at : (b : Bool) → leb end (from + step * t) ≡ b → (b || eqb (ones (from + step * t)) k) ≡ false
+        → (from + step * t < end) × (ones (from + step * t) ≡ k → ⊥)
+    at true e q = absurd (true≢false q)
+    at false e q = (leb-false end (from + step * t) e, eqb-false (ones (from + step * t)) k q)
+
+-- r is reached after some steps at which the search does not stop
 pub record Skipped (from step end k r : ℕ) : Type 0 where
-  pub begins : from ≤ r
-  pub aligned : r % step ≡ from % step
-  pub first : (s : ℕ) → from ≤ s → s < r → s % step ≡ from % step → (s < end) × (ones s ≡ k → ⊥)
+  pub steps : ℕ
+  pub reached : r ≡ from + step * steps
+  pub before : (t : ℕ) → t < steps → stops from step end k t ≡ false
 
 module _ (from step end k : ℕ) where
   pub skipped-none : Skipped from step end k from
-  skipped-none = record { begins = le-refl from; aligned = refl; first = λ s l h e. let z : ⊥ = omega arith in absurd z }
+  skipped-none = record { steps = 0; reached = omega arith; before = λ t l. absurd (not-suc-le-zero l) }
 
-  pub skipped-more : (r : ℕ) → 1 ≤ step → step ≤ 2 → Skipped from step end k r → r < end → (ones r ≡ k → ⊥) → Skipped from step end k (r + step)
-  skipped-more r a b w l h =
+  pub skipped-more : (r : ℕ) → Skipped from step end k r → r < end → (ones r ≡ k → ⊥) → Skipped from step end k (r + step)
+  skipped-more r w l h =
       record {
-        begins = omega (arith, w .begins);
-        aligned = step-on step r a b ∙ w .aligned;
-        first = λ s m n e.
-            on-by-step (λ x. from ≤ x → x % step ≡ from % step → (x < end) × (ones x ≡ k → ⊥)) step r a b (λ x i j q. w .first x j i q) (λ i q. (l, h)) s n
-            (e ∙ sym (w .aligned)) m e;
+        steps = w .steps + 1;
+        reached = omega (arith, w .reached, ap (λ (t : ℕ). step * t) (add-one (w .steps)), mul-suc step (w .steps));
+        before = below-more _ _ (w .before) (rw (← w .reached, lt-leb end r l) (ne-eqb (ones r) k h));
       }
 
-  pub next-choice : (r : ℕ) → Skipped from step end k r → (r < end → ones r ≡ k) → NextChoice from step end k r
-  next-choice r w h = record { begins = w .begins; aligned = w .aligned; first = w .first; found = h }
+  -- where it stops is the next choice
+  pub next-choice : (r : ℕ) → 1 ≤ step → step ≤ 2 → Skipped from step end k r → (r < end → ones r ≡ k) → r ≡ nextChoice from step end k
+  unfolding nextChoice
+  next-choice r low high w h =
+      w .reached ∙ ap (λ (t : ℕ). from + step * t) (sym (first-at end (w .steps) (stops from step end k) few stopped (w .before)))
+    where
+      few : w .steps ≤ end
+      few = at (w .steps) (w .before)
+        where
+          at : (t : ℕ) → ((s : ℕ) → s < t → stops from step end k s ≡ false) → t ≤ end
+          at zero f = zero-le
+          at (suc t) f = omega (arith, stops-not from step end k t (f t (omega arith)) .0, steps-le step t low high)
+
+      stopped : w .steps < end → stops from step end k (w .steps) ≡ true
+      stopped l =
+          ⊎-elim (λ (q : end ≤ r). rw (← w .reached, le-leb end r q) refl)
+          (λ (q : r < end). rw (← w .reached, lt-leb end r q) (eq-eqb (ones r) k (h q))) (le-or-lt end r)
+
+  -- it is no less than where the search begins
+  pub choice-begins : (r : ℕ) → r ≡ nextChoice from step end k → from ≤ r
+  unfolding nextChoice
+  choice-begins r e = omega arith
 
 -- ---- all choices one after the other
 
@@ -72,50 +128,36 @@ pub record Passed (step end k : ℕ) (P : ℕ → Type 0) (c : ℕ) : Type 0 whe
   pub found : c < end → ones c ≡ k
   pub before : (s : ℕ) → s < c → s % step ≡ 1 % step → s < end → P s
 
-module _ (step end k : ℕ) (P : ℕ → Type 0) (others : (s : ℕ) → s < end → (ones s ≡ k → ⊥) → P s) where
-  pub passed-none : (c : ℕ) → 1 ≤ k → NextChoice 1 step end k c → Passed step end k P c
-  passed-none c h w = record { aligned = w .aligned; found = w .found; before = earlier }
+module _ (step end k : ℕ) (P : ℕ → Type 0) (others : (s : ℕ) → s < end → (ones s ≡ k → ⊥) → P s) (low : 1 ≤ step) (high : step ≤ 2) where
+  -- from the masks before `from` to those before the next choice
+  passed-on : (from c : ℕ) → from % step ≡ 1 % step → ((s : ℕ) → s < from → s % step ≡ 1 % step → s < end → P s)
+      → c ≡ nextChoice from step end k → Passed step end k P c
+  unfolding nextChoice
+  passed-on from c same before e = rw e (record { aligned = steps-on step from steps low high ∙ same; found = found; before = earlier })
     where
-      earlier : (s : ℕ) → s < c → s % step ≡ 1 % step → s < end → P s
-      earlier zero l e b = others zero b (λ q. omega (arith, ones-none))
-      earlier (suc s) l e b = others (suc s) b (w .first (suc s) (omega arith) l e .1)
+      steps : ℕ
+      steps = firstBelow end (stops from step end k)
 
-  pub passed-more : (c d : ℕ) → 1 ≤ step → step ≤ 2 → Passed step end k P c → P c → NextChoice (c + step) step end k d → Passed step end k P d
-  passed-more c d low high v now w =
-      record { aligned = w .aligned ∙ step-on step c low high ∙ v .aligned; found = w .found; before = earlier }
-    where
-      same : (c + step) % step ≡ 1 % step
-      same = step-on step c low high ∙ v .aligned
+      found : from + step * steps < end → ones (from + step * steps) ≡ k
+      found l =
+          eqb-true _ k (rw (lt-leb end (from + step * steps) l) at (first-there end (stops from step end k) (omega (arith, steps-le step steps low high))))
 
-      earlier : (s : ℕ) → s < d → s % step ≡ 1 % step → s < end → P s
-      earlier s l e b =
-          ⊎-elim (λ (h : c + step ≤ s). others s b (w .first s h l (e ∙ sym same) .1))
-          (λ (h : s < c + step). on-by-step (λ x. x % step ≡ 1 % step → x < end → P x) step c low high (v .before) (λ i j. now) s h (e ∙ sym (v .aligned)) e b)
-          (le-or-lt (c + step) s)
+      earlier : (s : ℕ) → s < from + step * steps → s % step ≡ 1 % step → s < end → P s
+      earlier s l q b =
+          ⊎-elim
+          (λ (h : from ≤ s).
+          let t = steps-to step from s steps low high h l (q ∙ sym same) in
+          others s b (rw (t .2) (stops-not from step end k (t .0) (first-before end (stops from step end k) (t .0) (t .1)) .1)))
+          (λ (h : s < from). before s h q b) (le-or-lt from s)
 
--- ---- tests
+  pub passed-none : (c : ℕ) → 1 ≤ k → c ≡ nextChoice 1 step end k → Passed step end k P c
+  passed-none c h e =
+      passed-on 1 c refl (λ s l q b. others s b (λ o. let z : s ≡ 0 = omega arith in omega (arith, ones-none, ap ones z))) e
 
--- every number below n passes
-pub every-true : (n : ℕ) (test : ℕ → Bool) → ((i : ℕ) → i < n → test i ≡ true) → everyBelow n test ≡ true
-unfolding everyBelow
-every-true zero test h = refl
-every-true (suc n) test h = ap₂ _&&_ (every-true n test (λ i l. h i (le-trans l (le-suc n)))) (h n (le-refl (suc n)))
-
-or-true : (b : Bool) → b || true ≡ true
-or-true true = refl
-or-true false = refl
-
-and-false : (b : Bool) → b && false ≡ false
-and-false true = refl
-and-false false = refl
-
--- one that fails
-pub every-false : (n : ℕ) (test : ℕ → Bool) (i : ℕ) → i < n → test i ≡ false → everyBelow n test ≡ false
-unfolding everyBelow
-every-false zero test i l e = absurd (not-suc-le-zero l)
-every-false (suc n) test i l e =
-    ⊎-elim (λ (q : i ≡ n). ap (λ (b : Bool). everyBelow n test && b) (ap test (sym q) ∙ e) ∙ and-false (everyBelow n test))
-    (λ (q : i < n). ap (λ (b : Bool). b && test n) (every-false n test i q e)) (eq-or-lt-of-le (le-of-suc-le-suc l))
+  pub passed-more : (c d : ℕ) → Passed step end k P c → P c → d ≡ nextChoice (c + step) step end k → Passed step end k P d
+  passed-more c d v now e =
+      passed-on (c + step) d (step-on step c low high ∙ v .aligned)
+      (λ s l q b. on-by-step (λ x. x % step ≡ 1 % step → x < end → P x) step c low high (v .before) (λ i j. now) s l (q ∙ sym (v .aligned)) q b) e
 
 -- ---- the blocks of the choices
 
@@ -165,19 +207,19 @@ module _ (p n k : ℕ) (f : ℕ → ℕ → ℕ) where
     pub all-passed : (c : ℕ) → Passed 1 (2 ^ n) k RegularLines c → 2 ^ n ≤ c → true ≡ regularOfSize (numbers p) n f step k
     unfolding regularOfSize
     all-passed c w l =
-        sym (every-true (2 ^ n) _ (λ r h. every-true (2 ^ n) _ (λ s i. w .before r (lt-of-lt-of-le h l) (omega arith) h s i)))
+        sym (each-every (2 ^ n) _ (λ r h. each-every (2 ^ n) _ (λ s i. w .before r (lt-of-lt-of-le h l) (omega arith) h s i)))
 
     pub one-singular : (r s : ℕ) → r < 2 ^ n → s < 2 ^ n → s % step ≡ 1 % step → isRegularBlock (numbers p) n f k r s ≡ false
         → false ≡ regularOfSize (numbers p) n f step k
     unfolding regularOfSize
     one-singular r s lr ls a e =
-        sym (every-false (2 ^ n) _ r lr (every-false (2 ^ n) _ s ls (rw (eq-eqb (s % step) (1 % step) a) e)))
+        every-not (2 ^ n) _ r lr (sym (every-not (2 ^ n) _ s ls (rw (eq-eqb (s % step) (1 % step) a) e)))
 
 -- ---- the square block of a choice of k lines and k columns
 
 module _ (p n k lines columns : ℕ) (m b r : List (List ℕ)) (size : n ≤ 8) (hl : lines < 2 ^ n) (hc : columns < 2 ^ n) (el : ones lines ≡ k) (ec : ones columns ≡ k)
-    (eb : (i : ℕ) → i < length (chosen 8 lines) → getD b i [] ≡ getD m (getD (chosen 8 lines) i 0) [])
-    (er : (i j : ℕ) → i < k → j < length (chosen 8 columns) → entry r i j ≡ entry b i (getD (chosen 8 columns) j 0)) where
+    (eb : b ≡ filled (replicate 8 0) (λ i. getD m (getD (chosen 8 lines) i 0) []) (length (chosen 8 lines)))
+    (er : r ≡ framed k (length (chosen 8 columns)) (λ i j. entry b i (getD (chosen 8 columns) j 0))) where
   manyLines : length (chosen n lines) ≡ k
   manyLines = chosen-ones n lines hl ∙ el
 
@@ -185,7 +227,10 @@ module _ (p n k lines columns : ℕ) (m b r : List (List ℕ)) (size : n ≤ 8) 
   manyColumns = chosen-ones n columns hc ∙ ec
 
   square : (i j : ℕ) → i < k → j < k → entry r i j ≡ block (entry m) (chosen n lines) (chosen n columns) i j
-  square i j hi hj = selection n lines columns k m b r size hl hc eb er i j hi (omega (arith, manyLines)) (omega (arith, manyColumns))
+  unfolding block
+  square i j hi hj =
+      column-chosen n columns b r size hc k er i j hi (omega (arith, manyColumns))
+      ∙ ap (λ (line : List ℕ). getD line (getD (chosen n columns) j 0) 0) (line-chosen n lines m b size hl eb i (omega (arith, manyLines)))
 
   -- its entries are elements
   pub square-in-field : InField p n n m → InField p k k r
@@ -206,21 +251,5 @@ endOf n = 1 * 2 ^ n % 65536
 pub end-most : (n : ℕ) → n ≤ 8 → 2 ^ n ≤ 256
 end-most n h = pow-mono {j = 8} h
 
-pub end-is : (n : ℕ) → n ≤ 8 → endOf n ≡ 2 ^ n
-end-is n h = ap (λ (x : ℕ). x % 65536) (one-mul (2 ^ n)) ∙ mod-eq-of-lt (omega (arith, end-most n h))
-
-pub end-choice : (n from step k r : ℕ) → n ≤ 8 → NextChoice from step (endOf n) k r → NextChoice from step (2 ^ n) k r
-end-choice n from step k r h w = subst (λ (x : ℕ). NextChoice from step x k r) (end-is n h) w
-
--- ---- the next choice is one number
-
-not-before : (from step end k r s : ℕ) → NextChoice from step end k r → NextChoice from step end k s → r ≤ s
-not-before from step end k r s a b =
-    ⊎-elim (λ (l : r ≤ s). l)
-    (λ (l : s < r).
-    let between : (s < end) × (ones s ≡ k → ⊥) = a .first s (b .begins) l (b .aligned) in
-    absurd (between .1 (b .found (between .0))))
-    (le-or-lt r s)
-
-pub choice-unique : (from step end k r s : ℕ) → NextChoice from step end k r → NextChoice from step end k s → r ≡ s
-choice-unique from step end k r s a b = le-antisymm (not-before from step end k r s a b) (not-before from step end k s r b a)
+pub end-choice : (n from step k r : ℕ) → n ≤ 8 → r ≡ nextChoice from step (endOf n) k → r ≡ nextChoice from step (2 ^ n) k
+end-choice n from step k r h e = e ∙ ap (λ (x : ℕ). nextChoice from step x k) (shifted n h)

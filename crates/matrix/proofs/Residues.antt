@@ -13,20 +13,22 @@ use lib.Dec.{eqb}
 use lib.ListN.{length, getD, List·getD-map}
 use lib.Pow.{pow-pos, pow-mono}
 use borrow.Author.Tests.{eqb-true, eqb-false, eq-eqb}
-use Rattle.algebra.specs.Operations.{Operations, Field}
-use Rattle.algebra.specs.Matrix.{tabulate, apply, weight, det, block, chosen, branchNumber, isMds, isInvolution}
+use Rattle.algebra.specs.Operations.{Operations}
+use Rattle.algebra.proofs.FieldLaws.{Field}
+use Rattle.algebra.specs.Matrix.{tabulate, upTo, apply, weight, det, branchNumber, isMds, isInvolution}
+use Rattle.algebra.specs.Steps.{hasKernel}
 use Rattle.algebra.proofs.Words.{tabulate-cong}
-use Rattle.algebra.proofs.Bridge.{Homomorphism, map-tabulate, weight-bridge, apply-bridge, det-bridge, branch-bridge, mds-bridge, involution-bridge}
-use Rattle.algebra.proofs.Kernel.{hasKernel, hasKernel-bridge}
+use Rattle.algebra.proofs.Bridge.{Homomorphism, map-tabulate, weight-bridge, apply-bridge, det-bridge, branch-bridge, mds-bridge, hasKernel-bridge, involution-bridge}
 use Rattle.field.specs.Polynomial.{_⊕_, degree, product, Modulus}
 use Rattle.field.proofs.Sum.{sum-assoc, sum-comm, sum-zero-r, sum-self, sum-lt}
 use Rattle.field.proofs.Degrees.{HasDegree, polynomial}
 use Rattle.field.proofs.Field.{times-assoc, times-comm, times-one-r, times-sum-r, times-lt}
 use Rattle.field.proofs.Inverses.{inverse-exists}
 use Rattle.field.proofs.Irreducibility.{irreducible-to}
-use Rattle.matrix.specs.Numbers.{numbers, elements, WordsInField}
-use Rattle.matrix.specs.Regular.{regularUpTo}
-use Rattle.matrix.proofs.Squares.{block-bridge, regular-bridge}
+use Rattle.matrix.specs.Numbers.{numbers, elements}
+use Rattle.matrix.specs.Steps.Conditions.{WordsInField}
+use Rattle.matrix.specs.Steps.Regular.{regularUpTo}
+use Rattle.matrix.proofs.Squares.{regular-bridge}
 
 -- ---- elements
 
@@ -69,7 +71,7 @@ residues-complete p a =
 
 -- as numbers they are 0 to 2^m - 1
 pub residue-numbers : (p : ℕ) → map (number p) (residueList p) ≡ elements p
-unfolding residueList elements
+unfolding residueList elements upTo
 residue-numbers p = map-tabulate (number p) (2 ^ degree p) (lift p) ∙ tabulate-cong (2 ^ degree p) _ _ (λ i l. lift-number p i l)
 
 -- ---- words
@@ -159,6 +161,13 @@ module _ (p : ℕ) (h : Modulus p) where
   pub weight-carried : (x : List (Residue p)) → weight (numbers p) (map (number p) x) ≡ weight residues x
   weight-carried = weight-bridge residues (numbers p) (number p) number-keeps
 
+  -- the kernel
+  pub kernel-carried : (c r : ℕ) (f : ℕ → ℕ → ℕ) (F : ℕ → ℕ → Residue p) → ((i j : ℕ) → i < r → j < c → F i j .0 ≡ f i j)
+      → hasKernel (numbers p) (elements p) c r f ≡ hasKernel residues (residueList p) c r F
+  kernel-carried c r f F e =
+      ap (λ l. hasKernel (numbers p) l c r f) (sym (residue-numbers p))
+      ∙ hasKernel-bridge residues (numbers p) (number p) number-keeps c r F f e (residueList p)
+
   module _ (n : ℕ) (f : ℕ → ℕ → ℕ) (F : ℕ → ℕ → Residue p) (e : (i j : ℕ) → i < n → j < n → F i j .0 ≡ f i j) where
     -- the product
     pub apply-carried : (x : List (Residue p)) → map (number p) (apply residues n F x) ≡ apply (numbers p) n f (map (number p) x)
@@ -193,12 +202,3 @@ module _ (p : ℕ) (h : Modulus p) where
     -- the test of square blocks
     pub regular-carried : (step most : ℕ) → regularUpTo (numbers p) n f step most ≡ regularUpTo residues n F step most
     regular-carried = regular-bridge residues (numbers p) (number p) number-keeps n F f e
-
-    -- the elimination in a block
-    pub kernel-carried : (r s : ℕ)
-        → hasKernel (numbers p) (length (chosen n s)) (length (chosen n r)) (block f (chosen n r) (chosen n s))
-        ≡ hasKernel residues (length (chosen n s)) (length (chosen n r)) (block F (chosen n r) (chosen n s))
-    kernel-carried r s =
-        hasKernel-bridge residues (numbers p) (number p) number-keeps (length (chosen n s)) (length (chosen n r))
-        (block F (chosen n r) (chosen n s)) (block f (chosen n r) (chosen n s))
-        (block-bridge residues (numbers p) (number p) number-keeps n F f e r s)

@@ -1,24 +1,26 @@
 -- Hadamard matrices over the numbers below 2^m: involution, MDS, moved rows.
 -- Assumes nothing.
-use mathlib.Core.Path.{_≡_, refl, sym, ap, ap₂, _∙_}
+use mathlib.Core.Path.{_≡_, sym, ap, _∙_}
 use mathlib.Core.Bool.{true, false}
-use mathlib.Core.List.{List, map}
+use mathlib.Core.List.{List}
 use mathlib.Core.Logic.{_≢_}
-use Prim.Native.Nat.{ℕ, suc, _-_, _^_, _≤_, _<_}
+use Prim.Native.Nat.{ℕ, _-_, _^_, _≤_, _<_}
 use lib.Bits.{bitXor, xor-lt}
 use lib.Dec.{eqb}
 use lib.ListN.{getD}
 use borrow.Author.Tests.{eqb-true, eq-eqb}
-use Rattle.algebra.specs.Operations.{Operations, Field}
+use Rattle.algebra.specs.Operations.{Operations}
+use Rattle.algebra.proofs.FieldLaws.{Field}
 use Rattle.algebra.specs.Matrix.{tabulate, sum, hadamard, branchNumber, isMds, isInvolution}
 use Rattle.algebra.proofs.Words.{getD-tabulate, tabulate-cong}
 use Rattle.algebra.proofs.Sums.{Inverse}
 use Rattle.algebra.proofs.Hadamard.{involution-sum, sum-involution, null-not-mds, equal-not-mds}
 use Rattle.algebra.proofs.Symmetry.{same-bool, moved, branch-row, mds-row, involution-row}
-use Rattle.algebra.proofs.Bridge.{sum-bridge, hadamard-bridge}
+use Rattle.algebra.proofs.Bridge.{sum-bridge}
 use Rattle.field.specs.Polynomial.{Modulus}
-use Rattle.matrix.specs.Numbers.{numbers, elements, WordsInField}
-use Rattle.matrix.specs.Regular.{regularUpTo}
+use Rattle.matrix.specs.Numbers.{numbers, elements}
+use Rattle.matrix.specs.Steps.Conditions.{WordsInField}
+use Rattle.matrix.specs.Steps.Regular.{regularUpTo}
 use Rattle.matrix.proofs.Squares as Squares
 use Rattle.matrix.proofs.Residues.{Residue, number, lift, lift-number, same-number, residueList as all, residues-complete as complete, residues, number-keeps, residues-field}
 use Rattle.matrix.proofs.Residues.{branch-carried, mds-carried, involution-carried, regular-carried}

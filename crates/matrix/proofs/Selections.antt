@@ -1,18 +1,22 @@
 -- Choices of lines and columns, walked digit by digit of a mask. Assumes nothing.
 use mathlib.Core.Path.{_≡_, refl, sym, ap, _∙_}
 use mathlib.Core.List.{List, [], _∷_, _++_, map, append-nil, append-assoc}
-use Prim.Native.Nat.{ℕ, zero, suc, _+_, _-_, _/_, _%_, _^_, _≤_, _<_}
-use native.Mathlib.Nat.{not-suc-le-zero, le-of-suc-le-suc, lt-of-lt-of-le, pow-suc, add-zero, zero-add, suc-add}
+use mathlib.Core.Logic.{⊎-elim}
+use Prim.Native.Nat.{ℕ, zero, suc, _+_, _-_, _*_, _/_, _%_, _^_, _≤_, _<_}
+use native.Mathlib.Nat.{not-suc-le-zero, le-of-suc-le-suc, lt-of-lt-of-le, eq-or-lt-of-le, lt-of-le-of-lt, pos-of-ne-zero, pow-suc, add-zero, zero-add, suc-add, one-mul, mod-eq-of-lt}
 use native.Mathlib.Numerals.{add-one}
 use native.Mathlib.Omega.{arith}
 use lib.Bits.{bitAnd, and-mask}
 use lib.Count.{ones, onesIn, ones-step}
+use lib.Dec.{lit<}
 use lib.Pow.{pow-mono}
-use lib.ListN.{length, getD, take, set, length-map, length-set}
-use lib.Seq.{length-take-le, take-set-le, take-suc-set, getD-take}
-use Rattle.algebra.specs.Matrix.{atDigit, placesFrom, chosen, block}
+use lib.ListN.{length, getD, take, set, replicate, length-map, length-set, getD-replicate}
+use lib.Seq.{length-take-le, take-set-le, take-suc-set, getD-take, getD-set-other}
+use Rattle.algebra.specs.Steps.{atDigit, placesFrom, chosen}
 use Rattle.field.proofs.Sum.{at-digit}
 use Rattle.matrix.specs.Numbers.{entry}
+use Rattle.matrix.specs.Steps.Blocks.{filled, framed}
+use Rattle.matrix.proofs.Filled.{getD-filled, filled-of, entry-of}
 
 -- no places without ones
 places-none : (i n : ℕ) → placesFrom i n 0 ≡ []
@@ -36,12 +40,13 @@ pub record Inside (rest i k : ℕ) : Type 0 where
   pub store : k < 8
   pub digit : bitAnd rest 1 < 2
 
-module _ {A : Type 0} (source : List A) (d : A) where
+module _ {A : Type 0} (source : List A) (d z : A) where
   -- the elements at the places
   abbrev pub picked : List ℕ → List A
   picked places = map (λ j. getD source j d) places
 
   -- A walk over the digits of a mask: `rest` has the digits from place i on, and r has the chosen elements below it at its first k places.
+  -- Behind them stands z, but for place k, which holds an element that is not chosen until a chosen one comes.
   pub record Walk (mask : ℕ) (r : List A) (rest i k : ℕ) : Type 0 where
     pub left : ℕ
     pub places : i + left ≡ 8
@@ -49,10 +54,22 @@ module _ {A : Type 0} (source : List A) (d : A) where
     pub few : k ≤ i
     pub size : length r ≡ 8
     pub stored : take k r ++ picked (placesFrom i left rest) ≡ picked (chosen 8 mask)
+    pub behind : (j : ℕ) → k < j → j < 8 → getD r j d ≡ z
+    pub last : rest ≡ 0 → k < 8 → getD r k d ≡ z
 
-  pub walk-begins : (mask : ℕ) (r : List A) → mask < 256 → length r ≡ 8 → Walk mask r mask 0 0
+  pub walk-begins : (mask : ℕ) → mask < 256 → Walk mask (replicate 8 z) mask 0 0
   unfolding chosen
-  walk-begins mask r h e = record { left = 8; places = refl; below = h; few = omega arith; size = e; stored = refl }
+  walk-begins mask h =
+      record {
+        left = 8;
+        places = refl;
+        below = h;
+        few = omega arith;
+        size = refl;
+        stored = refl;
+        behind = λ j l m. getD-replicate 8 j z d m;
+        last = λ e l. refl;
+      }
 
   -- one digit: the element is stored, and stays if the digit is 1
   one-digit : (r : List A) (k i mask : ℕ) (tail : List ℕ) → k < length r
@@ -80,6 +97,9 @@ module _ {A : Type 0} (source : List A) (d : A) where
         at : i < 8
         at = within (w .left) (w .places) (w .below)
 
+    untouched : (j : ℕ) → k < j → j < 8 → getD (set r k (getD source i d)) j d ≡ z
+    untouched j l h = getD-set-other r k j (getD source i d) d (λ (e : j ≡ k). omega arith) ∙ w .behind j l h
+
     pub walk-goes-on : (rest ≡ 0 → ⊥) → Walk mask (set r k (getD source i d)) (rest / 2) (i + 1) (k + bitAnd rest 1)
     walk-goes-on h = goes (w .left) (w .places) (w .below) (w .stored)
       where
@@ -95,21 +115,29 @@ module _ {A : Type 0} (source : List A) (d : A) where
               few = omega (arith, w .few);
               size = length-set r k (getD source i d) ∙ w .size;
               stored = rw (add-one i) (one-digit r k i rest (placesFrom (suc i) n (rest / 2)) (omega (arith, w .few, w .size)) ∙ unfold placesFrom in s);
+              behind = λ j m q. untouched j (omega arith) q;
+              last = λ e q. untouched (k + rest % 2) (omega (arith, pos-of-ne-zero h)) q;
             }
 
-    -- where no one is left, the chosen elements are stored
-    pub walk-ends : rest ≡ 0 → (j : ℕ) → j < length (chosen 8 mask) → getD r j d ≡ getD source (getD (chosen 8 mask) j 0) d
-    walk-ends z j l =
-        sym (getD-take k r j d (omega (arith, count))) ∙ ap (λ x. getD x j d) all ∙ getD-mapped (λ n. getD source n d) (chosen 8 mask) j d l
+    -- where no one is left, the chosen elements are stored, and z behind them
+    pub walk-ends : rest ≡ 0 → r ≡ filled z (λ j. getD source (getD (chosen 8 mask) j 0) d) (length (chosen 8 mask))
+    walk-ends o = filled-of z _ k r d (omega (arith, w .few, w .places)) (w .size) first others ∙ ap (filled z _) count
       where
         all : take k r ≡ picked (chosen 8 mask)
         all =
             sym (append-nil (take k r))
-            ∙ ap (λ x. take k r ++ picked x) (sym (ap (placesFrom i (w .left)) z ∙ places-none i (w .left)))
+            ∙ ap (λ x. take k r ++ picked x) (sym (ap (placesFrom i (w .left)) o ∙ places-none i (w .left)))
             ∙ w .stored
 
         count : k ≡ length (chosen 8 mask)
         count = sym (length-take-le k r (omega (arith, w .few, w .places, w .size))) ∙ ap length all ∙ length-map (chosen 8 mask) (λ j. getD source j d)
+
+        first : (j : ℕ) → j < k → getD r j d ≡ getD source (getD (chosen 8 mask) j 0) d
+        first j l =
+            sym (getD-take k r j d l) ∙ ap (λ x. getD x j d) all ∙ getD-mapped (λ n. getD source n d) (chosen 8 mask) j d (omega (arith, count))
+
+        others : (j : ℕ) → k ≤ j → j < 8 → getD r j d ≡ z
+        others j l m = ⊎-elim (λ (e : k ≡ j). rw (← e) (w .last o (omega arith))) (λ (q : k < j). w .behind j q m) (eq-or-lt-of-le l)
 
 -- ---- masks of fewer digits
 
@@ -130,6 +158,10 @@ chosen-among n mask l h =
 -- and below 256
 pub mask-fits : (n mask : ℕ) → n ≤ 8 → mask < 2 ^ n → mask < 256
 mask-fits n mask l h = lt-of-lt-of-le h (pow-mono {j = 8} l)
+
+-- the end of the masks, as the code has it: 1, shifted by the order, fits 16 bits
+pub shifted : (n : ℕ) → n ≤ 8 → 1 * 2 ^ n % 65536 ≡ 2 ^ n
+shifted n l = ap (λ (k : ℕ). k % 65536) (one-mul (2 ^ n)) ∙ mod-eq-of-lt (lt-of-le-of-lt (pow-mono {j = 8} l) (lit< tt))
 
 -- no ones
 pub ones-none : ones 0 ≡ 0
@@ -152,13 +184,16 @@ pub chosen-ones : (n mask : ℕ) → mask < 2 ^ n → length (chosen n mask) ≡
 unfolding chosen
 chosen-ones n mask h = places-ones 0 n mask h
 
--- lines, and then columns, chosen from a matrix of order n
-pub selection : (n lines columns k : ℕ) (m b r : List (List ℕ)) → n ≤ 8 → lines < 2 ^ n → columns < 2 ^ n
-    → ((i : ℕ) → i < length (chosen 8 lines) → getD b i [] ≡ getD m (getD (chosen 8 lines) i 0) [])
-    → ((i j : ℕ) → i < k → j < length (chosen 8 columns) → entry r i j ≡ entry b i (getD (chosen 8 columns) j 0))
-    → (i j : ℕ) → i < k → i < length (chosen n lines) → j < length (chosen n columns)
-    → entry r i j ≡ block (entry m) (chosen n lines) (chosen n columns) i j
-unfolding block
-selection n lines columns k m b r l hl hc eb er i j hk hi hj =
-    (rw (chosen-among n columns l hc) at er) i j hk hj
-    ∙ ap (λ (line : List ℕ). getD line (getD (chosen n columns) j 0) 0) ((rw (chosen-among n lines l hl) at eb) i hi)
+-- ---- the lines and columns that are chosen from a matrix of order n
+
+module _ (n mask : ℕ) (m b : List (List ℕ)) (size : n ≤ 8) (below : mask < 2 ^ n) where
+  pub line-chosen : b ≡ filled (replicate 8 0) (λ i. getD m (getD (chosen 8 mask) i 0) []) (length (chosen 8 mask))
+      → (i : ℕ) → i < length (chosen n mask) → getD b i [] ≡ getD m (getD (chosen n mask) i 0) []
+  line-chosen e i l =
+      ap (λ (x : List (List ℕ)). getD x i []) (rw (chosen-among n mask size below) at e)
+      ∙ getD-filled (replicate 8 0) (λ i. getD m (getD (chosen n mask) i 0) []) (length (chosen n mask)) i l []
+
+  pub column-chosen : (r : ℕ) → b ≡ framed r (length (chosen 8 mask)) (λ i j. entry m i (getD (chosen 8 mask) j 0))
+      → (i j : ℕ) → i < r → j < length (chosen n mask) → entry b i j ≡ entry m i (getD (chosen n mask) j 0)
+  column-chosen r e =
+      entry-of r (length (chosen n mask)) (λ i j. entry m i (getD (chosen n mask) j 0)) b (rw (chosen-among n mask size below) at e)

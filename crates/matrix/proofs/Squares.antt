@@ -12,8 +12,11 @@ use lib.Dec.{eqb}
 use lib.ListN.{length, getD}
 use lib.Pow.{pow-pos}
 use borrow.Author.Tests.{eqb-true, eq-eqb}
-use Rattle.algebra.specs.Operations.{Operations, Field}
-use Rattle.algebra.specs.Matrix.{sum, hadamard, det, block, chosen, weight, oneUnless, activity, isMds}
+use Rattle.algebra.specs.Operations.{Operations}
+use Rattle.algebra.proofs.FieldLaws.{Field}
+use Rattle.algebra.specs.Matrix.{sum, hadamard, det, weight, activity, isMds}
+use Rattle.algebra.specs.Steps.{block, chosen}
+use Rattle.algebra.proofs.Words.{oneUnless}
 use Rattle.algebra.proofs.Words.{length-tabulate, getD-tabulate}
 use Rattle.algebra.proofs.Sums.{le-or-lt}
 use Rattle.algebra.proofs.Weights.{weight-le}
@@ -24,7 +27,8 @@ use Rattle.algebra.proofs.Symmetry.{same-bool, moved, translate}
 use Rattle.algebra.proofs.Choices.{supportMask, support-first, chosen-lt}
 use Rattle.algebra.proofs.Blocks.{singular-light, light-block}
 use Rattle.algebra.proofs.Bridge.{Homomorphism, det-bridge}
-use Rattle.matrix.specs.Regular.{everyBelow, isRegularBlock, regularOfSize, regularUpTo}
+use Rattle.field.specs.Steps.{everyBelow}
+use Rattle.matrix.specs.Steps.Regular.{isRegularBlock, regularOfSize, regularUpTo}
 
 -- ---- tests of all numbers below n
 
@@ -41,6 +45,11 @@ pub each-every : (n : ℕ) (test : ℕ → Bool) → ((k : ℕ) → k < n → te
 unfolding everyBelow
 each-every zero test h = refl
 each-every (suc n) test h = rw (each-every n test (λ k l. h k (le-trans l (le-suc n))), h n (le-refl (suc n)))
+
+-- where one fails, not all pass
+pub every-not : (n : ℕ) (test : ℕ → Bool) (k : ℕ) → k < n → test k ≡ false → false ≡ everyBelow n test
+every-not n test k l e =
+    same-bool false (everyBelow n test) (λ q. absurd (false≢true q)) (λ q. sym e ∙ every-each n test q k l)
 
 -- where not all pass, one does not
 pub every-fails : (n : ℕ) (test : ℕ → Bool) → everyBelow n test ≡ false → (k : ℕ) × (k < n) × (test k ≡ false)

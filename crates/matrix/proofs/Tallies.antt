@@ -1,7 +1,7 @@
 -- The XOR counts are small, and are counted one element and one line at a time. Assumes nothing.
-use mathlib.Core.Path.{_≡_, refl, sym, ap, _∙_}
-use Prim.Native.Nat.{ℕ, zero, suc, _+_, _-_, _*_, _≤_}
-use native.Mathlib.Nat.{mul-suc, mul-le-mul, suc-mul, zero-mul, mul-assoc}
+use mathlib.Core.Path.{_≡_, refl, sym, ap, ap₂, _∙_}
+use Prim.Native.Nat.{ℕ, zero, suc, _+_, _-_, _*_, _≤_, _<_}
+use native.Mathlib.Nat.{le-refl, mul-suc, mul-le-mul, suc-mul, zero-mul, mul-assoc}
 use native.Mathlib.Numerals.{add-one}
 use native.Mathlib.Omega.{arith}
 use Rattle.field.specs.Polynomial.{Modulus, degree, xorCount}
@@ -18,10 +18,16 @@ xorCount-le p (suc a) h =
     omega (arith, columns-most p (degree p) (suc a) (degree p) (poly .has) (poly .most), poly .most)
 
 -- a sum of n numbers of at most k is at most n·k
-total-le : (n k : ℕ) (f : ℕ → ℕ) → ((i : ℕ) → f i ≤ k) → total n f ≤ k * n
+pub total-le : (n k : ℕ) (f : ℕ → ℕ) → ((i : ℕ) → f i ≤ k) → total n f ≤ k * n
 unfolding total
 total-le zero k f h = omega arith
 total-le (suc n) k f h = omega (arith, total-le n k f h, h n, mul-suc k n)
+
+-- sums that agree below n
+pub total-cong : (n : ℕ) (f g : ℕ → ℕ) → ((i : ℕ) → i < n → f i ≡ g i) → total n f ≡ total n g
+unfolding total
+total-cong zero f g h = refl
+total-cong (suc n) f g h = ap₂ _+_ (total-cong n f g (λ i l. h i (omega arith))) (h n (le-refl (suc n)))
 
 -- a line of 8 counts at most 448
 pub elementCount-le : (p n : ℕ) (row : ℕ → ℕ) → Modulus p → elementCount p n row ≤ 56 * n

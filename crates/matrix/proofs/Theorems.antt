@@ -4,27 +4,30 @@
 use mathlib.Core.Path.{_≡_, refl, sym, ap, ap₂, _∙_}
 use mathlib.Core.Bool.{Bool, true, false, cond}
 use mathlib.Core.List.{List, map}
-use Prim.Native.Nat.{ℕ, zero, suc, _+_, _^_, _≤_, _<_}
+use Prim.Native.Nat.{ℕ, zero, suc, _+_, _-_, _^_, _≤_, _<_}
 use native.Mathlib.Nat.{le-refl, le-suc, le-trans}
 use native.Mathlib.Omega.{arith}
 use lib.Dec.{eqb}
 use lib.ListN.{length, getD, length-map}
 use lib.Pow.{pow-pos}
-use Rattle.algebra.specs.Operations.{Operations, Field}
-use Rattle.algebra.specs.Matrix.{words, sum, apply, without, det, block, chosen, weight, activity, leastActivity, branchNumber, isMds, isInvolution}
+use Rattle.algebra.specs.Operations.{Operations}
+use Rattle.algebra.proofs.FieldLaws.{Field}
+use Rattle.algebra.specs.Matrix.{words, sum, apply, without, det, weight, activity, leastActivity, branchNumber, isMds, isInvolution}
+use Rattle.algebra.specs.Steps.{block, chosen, hasKernel, cleared}
 use Rattle.algebra.proofs.Sums.{delta}
 use Rattle.algebra.proofs.Weights.{getD-apply}
 use Rattle.algebra.proofs.Branch.{branch-le, branch-le-suc, branch-attained}
 use Rattle.algebra.proofs.Involution.{product as times, involution-back, back-involution, involution-identity, identity-involution}
-use Rattle.algebra.proofs.Kernel.{hasKernel, det-kernel-to, det-kernel-from}
+use Rattle.algebra.proofs.Kernel.{cleared-bridge, hasKernel-free, hasKernel-step, det-kernel-to, det-kernel-from}
 use Rattle.algebra.proofs.Blocks.{kernel-activity, activity-kernel}
 use Rattle.algebra.proofs.Bridge.{sum-bridge}
 use Rattle.field.specs.Polynomial.{degree, product, Modulus}
 use Rattle.field.proofs.Sum.{sum-lt}
 use Rattle.field.proofs.Degrees.{polynomial}
 use Rattle.field.proofs.Field.{times-lt}
-use Rattle.matrix.specs.Numbers.{numbers, elements, WordsInField}
-use Rattle.matrix.specs.Regular.{regularUpTo}
+use Rattle.matrix.specs.Numbers.{numbers, elements}
+use Rattle.matrix.specs.Steps.Conditions.{WordsInField}
+use Rattle.matrix.specs.Steps.Regular.{regularUpTo}
 use Rattle.matrix.proofs.Squares as Squares
 use Rattle.matrix.proofs.Residues.{Residue, number, lift, lift-number, same-number, same-numbers, lift-words, residueList as all, residues-complete as complete, one-lt, residues, number-keeps, residues-field}
 use Rattle.matrix.proofs.Residues.{words-below, weight-carried, apply-carried, image-carried, det-carried, branch-carried, mds-carried, involution-carried, regular-carried, kernel-carried}
@@ -60,6 +63,29 @@ module _ (p : ℕ) (h : Modulus p) where
   pub apply-below : (n : ℕ) (f : ℕ → ℕ → ℕ) (x : List ℕ) → WordsInField p n (apply (numbers p) n f x)
   unfolding WordsInField
   apply-below n f x j l = rw (getD-apply (numbers p) n f x j l) (sum-below n _ (λ i m. product-below (f j i) (getD x i 0)))
+
+  -- ---- the kernel
+
+  -- whether an input that is not zero goes to zero, by elimination
+  module _ (c r : ℕ) (f : ℕ → ℕ → ℕ) (below : (i j : ℕ) → i < r → j < suc c → f i j < 2 ^ degree p) where
+    numbered : (i j : ℕ) → i < r → j < suc c → lift p (f i j) .0 ≡ f i j
+    numbered i j l m = lift-number p (f i j) (below i j l m)
+
+    carried : hasKernel (numbers p) (elements p) (suc c) r f ≡ hasKernel R (all p) (suc c) r (λ i j. lift p (f i j))
+    carried = kernel-carried p h (suc c) r f (λ i j. lift p (f i j)) numbered
+
+    -- no line has an entry in column 0
+    pub kernel-free : ((i : ℕ) → i < r → f i 0 ≡ 0) → hasKernel (numbers p) (elements p) (suc c) r f ≡ true
+    kernel-free z =
+        carried ∙ hasKernel-free R L (all p) (complete p) c r _ (λ i l. same-number p _ _ (numbered i 0 l (omega arith) ∙ z i l))
+
+    -- line k has one, and clears the others
+    pub kernel-step : (k : ℕ) → k < r → eqb (f k 0) 0 ≡ false
+        → hasKernel (numbers p) (elements p) (suc c) r f ≡ hasKernel (numbers p) (elements p) c (r - 1) (cleared (numbers p) f k)
+    kernel-step k l z =
+        carried
+        ∙ hasKernel-step R L (all p) (complete p) c r _ k l (rw (numbered k 0 l (omega arith)) z)
+        ∙ sym (kernel-carried p h c (r - 1) _ _ (cleared-bridge R (numbers p) (number p) (number-keeps p h) r c _ f k l numbered))
 
   module _ (n : ℕ) (f : ℕ → ℕ → ℕ) (below : (i j : ℕ) → i < n → j < n → f i j < 2 ^ degree p) where
     -- the matrix of elements
@@ -119,15 +145,21 @@ module _ (p : ℕ) (h : Modulus p) where
 
     -- ---- the branch number
 
+    block-carried : (r s : ℕ)
+        → hasKernel (numbers p) (elements p) (length (chosen n s)) (length (chosen n r)) (block f (chosen n r) (chosen n s))
+        ≡ hasKernel R (all p) (length (chosen n s)) (length (chosen n r)) (block lifted (chosen n r) (chosen n s))
+    block-carried r s =
+        kernel-carried p h (length (chosen n s)) (length (chosen n r)) _ _ (Squares.block-bridge R (numbers p) (number p) (number-keeps p h) n lifted f entries r s)
+
     branch-is : branchNumber (numbers p) (elements p) n f ≡ branchNumber R (all p) n lifted
     branch-is = branch-carried p h n f lifted entries
 
     -- a block with a kernel bounds it
     pub branch-below : (r s : ℕ)
-        → hasKernel (numbers p) (length (chosen n s)) (length (chosen n r)) (block f (chosen n r) (chosen n s)) ≡ true
+        → hasKernel (numbers p) (elements p) (length (chosen n s)) (length (chosen n r)) (block f (chosen n r) (chosen n s)) ≡ true
         → branchNumber (numbers p) (elements p) n f + length (chosen n r) ≤ length (chosen n s) + n
     branch-below r s t =
-        let x = kernel-activity R L n lifted r s (sym (kernel-carried p h n f lifted entries r s) ∙ t) in
+        let x = kernel-activity R L (all p) (complete p) n lifted r s (sym (block-carried r s) ∙ t) in
         omega (
           arith,
           branch-is,
@@ -138,17 +170,17 @@ module _ (p : ℕ) (h : Modulus p) where
     -- some block with a kernel meets that bound
     pub branch-reached : 0 < n
         → (r : ℕ) × (s : ℕ) × (r < 2 ^ n) × (s < 2 ^ n)
-        × (hasKernel (numbers p) (length (chosen n s)) (length (chosen n r)) (block f (chosen n r) (chosen n s)) ≡ true)
+        × (hasKernel (numbers p) (elements p) (length (chosen n s)) (length (chosen n r)) (block f (chosen n r) (chosen n s)) ≡ true)
         × (branchNumber (numbers p) (elements p) n f + length (chosen n r) ≡ length (chosen n s) + n)
     branch-reached g =
         let x = branch-attained R L (all p) (complete p) n lifted g in
-        let w = activity-kernel R L n lifted (x .0) (x .1) (x .2) in
-        (w .0, w .1, w .2, w .3, kernel-carried p h n f lifted entries (w .0) (w .1) ∙ w .6, omega (arith, branch-is, x .3, w .7))
+        let w = activity-kernel R L (all p) (complete p) n lifted (x .0) (x .1) (x .2) in
+        (w .0, w .1, w .2, w .3, block-carried (w .0) (w .1) ∙ w .6, omega (arith, branch-is, x .3, w .7))
 
     -- a number that every block with a kernel bounds is at most the branch number
     pub branch-at-least : 0 < n → (b : ℕ)
         → ((r s : ℕ) → r < 2 ^ n → s < 2 ^ n
-        → hasKernel (numbers p) (length (chosen n s)) (length (chosen n r)) (block f (chosen n r) (chosen n s)) ≡ true
+        → hasKernel (numbers p) (elements p) (length (chosen n s)) (length (chosen n r)) (block f (chosen n r) (chosen n s)) ≡ true
         → b + length (chosen n r) ≤ length (chosen n s) + n)
         → b ≤ branchNumber (numbers p) (elements p) n f
     branch-at-least g b bound = let w = branch-reached g in omega (arith, bound (w .0) (w .1) (w .2) (w .3) (w .4), w .5)

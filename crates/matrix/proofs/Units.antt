@@ -1,21 +1,15 @@
 -- A matrix is an involution exactly if it times itself is the identity, tested entry by entry. Assumes nothing.
-use mathlib.Core.Path.{_≡_, sym, _∙_}
-use mathlib.Core.Bool.{Bool, true, false, false≢true}
+use mathlib.Core.Path.{_≡_}
 use Prim.Native.Nat.{ℕ, _^_, _<_}
 use borrow.Author.Tests.{eq-eqb, eqb-true}
 use Rattle.algebra.specs.Matrix.{isInvolution}
 use Rattle.algebra.proofs.Symmetry.{same-bool}
 use Rattle.field.specs.Polynomial.{Modulus, degree}
-use Rattle.matrix.specs.Identity.{unit, squareEntry, isUnitLine}
+use Rattle.field.specs.Steps.{everyBelow}
+use Rattle.matrix.specs.Steps.Identity.{unit, squareEntry, isUnitLine}
 use Rattle.matrix.specs.Numbers.{numbers, elements}
-use Rattle.matrix.specs.Regular.{everyBelow}
 use Rattle.matrix.proofs.Squares.{every-each, each-every}
 use Rattle.matrix.proofs.Theorems.{involution-is-identity, identity-is-involution}
-
--- one that fails
-pub every-not : (n : ℕ) (test : ℕ → Bool) (k : ℕ) → k < n → test k ≡ false → false ≡ everyBelow n test
-every-not n test k l e =
-    same-bool false (everyBelow n test) (λ q. absurd (false≢true q)) (λ q. sym e ∙ every-each n test q k l)
 
 -- every line is that of the identity
 pub units-involution : (p : ℕ) → Modulus p → (n : ℕ) (f : ℕ → ℕ → ℕ) → ((i j : ℕ) → i < n → j < n → f i j < 2 ^ degree p)

@@ -1,10 +1,5 @@
--- The definitions that the contracts of `matrix` cite.
+-- The definitions that the contracts of `matrix` cite. To be believed: all but Steps.
 pub mod Numbers
 pub mod Counts
-pub mod Orders
-pub mod Choice
-pub mod Pairs
-pub mod Identity
-pub mod Regular
 pub mod Answers
-pub mod Yields
+pub mod Steps

@@ -2,18 +2,21 @@
 
 ghost use mathlib.Core.Path.{_≡_};
 ghost use mathlib.Core.List.{[]};
-ghost use Prim.Native.Nat.{ℕ, _+_, _^_, _≤_, _<_};
-ghost use lib.ListN.{length, getD};
-ghost use Rattle.algebra.specs.Matrix.{skip, without, det, chosen, block};
+ghost use Prim.Native.Nat.{_-_, _≤_, _<_};
+ghost use lib.ListN.{length, getD, replicate};
+ghost use Rattle.algebra.specs.Matrix.{skip, without, det};
+ghost use Rattle.algebra.specs.Steps.{chosen, block};
 ghost use Rattle.field.specs.Polynomial.{Modulus};
-ghost use Rattle.matrix.specs.Numbers.{numbers, entry, InField};
-ghost use Rattle.matrix.specs.Choice.{NextChoice};
-ghost use Rattle.matrix.specs.Regular.{regularOfSize, regularUpTo};
+ghost use Rattle.matrix.specs.Numbers.{numbers, entry};
+ghost use Rattle.matrix.specs.Steps.Conditions.{InField};
+ghost use Rattle.matrix.specs.Steps.Blocks.{filled, framed};
+ghost use Rattle.matrix.specs.Steps.Choice.{nextChoice};
+ghost use Rattle.matrix.specs.Steps.Regular.{regularOfSize, regularUpTo};
 
-// The line without column j: what stands behind column j moves up.
+// The line without column j: what stands behind column j moves up, and 0 behind it.
 fn without_column(line: [u8; 8], j: usize) -> [u8; 8]
     requires { ⌜ j ≤ 7 ⌝ }
-    ensures { λ r. ⌜ ((k : ℕ) → k < 7 → getD r k 0 ≡ getD line (skip j k) 0) ⌝ }
+    ensures { λ r. ⌜ r ≡ filled 0 (λ k. getD line (skip j k) 0) 7 ⌝ }
 {
     let mut r = line;
     let mut k = j;
@@ -21,13 +24,14 @@ fn without_column(line: [u8; 8], j: usize) -> [u8; 8]
         r[k] = line[k + 1];
         k += 1;
     }
+    r[7] = 0;
     r
 }
 
-// The block that is left without line 0 and column j.
+// The block that is left without line 0 and column j, and zeros elsewhere.
 pub fn without(block: [[u8; 8]; 8], n: usize, j: usize) -> [[u8; 8]; 8]
     requires { ⌜ (n ≤ 8) × (j < n) ⌝ }
-    ensures { λ r. ⌜ ((i k : ℕ) → i + 1 < n → k < 7 → entry r i k ≡ without (entry block) j i k) ⌝ }
+    ensures { λ r. ⌜ r ≡ framed (n - 1) 7 (without (entry block) j) ⌝ }
 {
     let mut r = [[0u8; 8]; 8];
     let mut i = 0;
@@ -68,12 +72,12 @@ fn first_line_sum(p: u16, block: [[u8; 8]; 8], n: usize) -> u8
     r
 }
 
-// The chosen columns of a line: each is stored, and the next overwrites one that is not chosen.
+// The chosen columns of a line, and zeros behind them: each is stored, and the next overwrites one that is not chosen. The last is chosen.
 fn chosen_line(line: [u8; 8], columns: u16) -> [u8; 8]
     requires { ⌜ columns < 256 ⌝ }
-    ensures { λ r. ⌜ ((j : ℕ) → j < length (chosen 8 columns) → getD r j 0 ≡ getD line (getD (chosen 8 columns) j 0) 0) ⌝ }
+    ensures { λ r. ⌜ r ≡ filled 0 (λ j. getD line (getD (chosen 8 columns) j 0) 0) (length (chosen 8 columns)) ⌝ }
 {
-    let mut r = line;
+    let mut r = [0u8; 8];
     let mut rest = columns;
     let mut i = 0;
     let mut k = 0;
@@ -86,12 +90,12 @@ fn chosen_line(line: [u8; 8], columns: u16) -> [u8; 8]
     r
 }
 
-// The chosen lines of a matrix, in the same way.
+// The chosen lines of a matrix, and zeros behind them, in the same way.
 pub fn chosen_lines(m: [[u8; 8]; 8], lines: u16) -> [[u8; 8]; 8]
     requires { ⌜ lines < 256 ⌝ }
-    ensures { λ r. ⌜ ((i : ℕ) → i < length (chosen 8 lines) → getD r i [] ≡ getD m (getD (chosen 8 lines) i 0) []) ⌝ }
+    ensures { λ r. ⌜ r ≡ filled (replicate 8 0) (λ i. getD m (getD (chosen 8 lines) i 0) []) (length (chosen 8 lines)) ⌝ }
 {
-    let mut r = m;
+    let mut r = [[0u8; 8]; 8];
     let mut rest = lines;
     let mut i = 0;
     let mut k = 0;
@@ -105,12 +109,12 @@ pub fn chosen_lines(m: [[u8; 8]; 8], lines: u16) -> [[u8; 8]; 8]
     r
 }
 
-// The chosen columns of the first n lines.
+// The chosen columns of the first n lines, and zeros elsewhere.
 pub fn chosen_columns(m: [[u8; 8]; 8], n: usize, columns: u16) -> [[u8; 8]; 8]
     requires { ⌜ (n ≤ 8) × (columns < 256) ⌝ }
-    ensures { λ r. ⌜ ((i j : ℕ) → i < n → j < length (chosen 8 columns) → entry r i j ≡ entry m i (getD (chosen 8 columns) j 0)) ⌝ }
+    ensures { λ r. ⌜ r ≡ framed n (length (chosen 8 columns)) (λ i j. entry m i (getD (chosen 8 columns) j 0)) ⌝ }
 {
-    let mut r = m;
+    let mut r = [[0u8; 8]; 8];
     let mut i = 0;
     while i < n {
         let line = chosen_line(m[i], columns);
@@ -123,7 +127,7 @@ pub fn chosen_columns(m: [[u8; 8]; 8], n: usize, columns: u16) -> [[u8; 8]; 8]
 // The next choice of k lines or columns: the first of the masks from, from + step, .. that has k ones or is not below end.
 fn next_choice(from: u16, step: u16, end: u16, k: usize) -> u16
     requires { ⌜ (1 ≤ step) × (step ≤ 2) × (end ≤ 256) ⌝ }
-    ensures { λ r. ⌜ NextChoice from step end k r ⌝ }
+    ensures { λ r. ⌜ r ≡ nextChoice from step end k ⌝ }
 {
     let mut r = from;
     while r < end {

@@ -4,14 +4,16 @@ use crate::block::chosen_columns;
 use crate::block::chosen_lines;
 ghost use mathlib.Core.Path.{_≡_};
 ghost use mathlib.Core.Bool.{not};
-ghost use Prim.Native.Nat.{ℕ, _+_, _-_, _^_, _≤_, _<_};
+ghost use Prim.Native.Nat.{_+_, _-_, _^_, _≤_, _<_};
 ghost use lib.Dec.{eqb};
 ghost use lib.ListN.{length, getD};
-ghost use Rattle.algebra.specs.Matrix.{skip, chosen, branchNumber};
-ghost use Rattle.algebra.proofs.Kernel.{cleared, hasKernel};
-ghost use Rattle.field.specs.Polynomial.{_⊕_, Modulus, firstBelow, product};
-ghost use Rattle.matrix.specs.Pairs.{lowered, linesKernel, overLines};
-ghost use Rattle.matrix.specs.Numbers.{numbers, elements, entry, InField, WordsInField};
+ghost use Rattle.algebra.specs.Matrix.{skip, branchNumber};
+ghost use Rattle.algebra.specs.Steps.{chosen, hasKernel, clearedLine, cleared};
+ghost use Rattle.field.specs.Polynomial.{Modulus, firstBelow};
+ghost use Rattle.matrix.specs.Steps.Blocks.{filled, framed};
+ghost use Rattle.matrix.specs.Steps.Pairs.{lowered, linesKernel, overLines};
+ghost use Rattle.matrix.specs.Numbers.{numbers, elements, entry};
+ghost use Rattle.matrix.specs.Steps.Conditions.{InField, WordsInField};
 
 // The first of the r lines whose entry in column 0 is not 0, or r.
 fn pivot(block: [[u8; 8]; 8], r: usize) -> usize
@@ -36,11 +38,10 @@ fn other_line(k: usize, i: usize) -> usize
     if i < k { i } else { i + 1 }
 }
 
-// A line cleared by the pivot's: its entry in column 0 vanishes and is left out.
+// A line cleared by the pivot's, and zeros behind it: its entry in column 0 vanishes and is left out.
 fn cleared_line(p: u16, first: [u8; 8], line: [u8; 8], c: usize) -> [u8; 8]
     requires { ⌜ Modulus p × (1 ≤ c) × (c ≤ 8) × WordsInField p c first × WordsInField p c line ⌝ }
-    ensures { λ r. ⌜ ((j : ℕ) → j + 1 < c
-        → getD r j 0 ≡ product p (getD first 0 0) (getD line (j + 1) 0) ⊕ product p (getD line 0 0) (getD first (j + 1) 0)) ⌝ }
+    ensures { λ r. ⌜ r ≡ filled 0 (clearedLine (numbers p) (λ j. getD first j 0) (λ j. getD line j 0)) (c - 1) ⌝ }
 {
     let a = first[0];
     let b = line[0];
@@ -53,10 +54,10 @@ fn cleared_line(p: u16, first: [u8; 8], line: [u8; 8], c: usize) -> [u8; 8]
     r
 }
 
-// The block that is left when column 0 is cleared by line k: without that line and that column.
+// The block that is left when column 0 is cleared by line k: without that line and that column, and zeros elsewhere.
 fn cleared(p: u16, block: [[u8; 8]; 8], r: usize, c: usize, k: usize) -> [[u8; 8]; 8]
     requires { ⌜ Modulus p × (k < r) × (r ≤ 8) × (1 ≤ c) × (c ≤ 8) × InField p r c block ⌝ }
-    ensures { λ b. ⌜ ((i j : ℕ) → i + 1 < r → j + 1 < c → entry b i j ≡ cleared (numbers p) (entry block) k i j) ⌝ }
+    ensures { λ b. ⌜ b ≡ framed (r - 1) (c - 1) (cleared (numbers p) (entry block) k) ⌝ }
 {
     let first = block[k];
     let mut b = [[0; 8]; 8];
@@ -70,10 +71,10 @@ fn cleared(p: u16, block: [[u8; 8]; 8], r: usize, c: usize, k: usize) -> [[u8; 8
     b
 }
 
-// Whether some input of c words that is not zero goes to zero in all r lines.
+// Whether some input of c words that is not zero goes to zero in all r lines, by elimination.
 pub fn has_kernel(p: u16, block: [[u8; 8]; 8], c: usize, r: usize) -> bool
     requires { ⌜ Modulus p × (r ≤ 8) × (c ≤ 8) × InField p r c block ⌝ }
-    ensures { λ b. ⌜ b ≡ hasKernel (numbers p) c r (entry block) ⌝ }
+    ensures { λ b. ⌜ b ≡ hasKernel (numbers p) (elements p) c r (entry block) ⌝ }
 {
     if c == 0 {
         return false;
@@ -89,7 +90,7 @@ pub fn has_kernel(p: u16, block: [[u8; 8]; 8], c: usize, r: usize) -> bool
 // The best so far, or the c columns and the lines left out, where that is less and the chosen lines send an input that is not zero to zero.
 fn tried(p: u16, narrow: [[u8; 8]; 8], n: usize, c: usize, lines: u16, best: usize) -> usize
     requires { ⌜ Modulus p × (n ≤ 8) × (c ≤ 8) × InField p n c narrow × (lines < 2 ^ n) ⌝ }
-    ensures { λ r. ⌜ r ≡ lowered (linesKernel (numbers p) n c (entry narrow) lines) (c + (n - length (chosen n lines))) best ⌝ }
+    ensures { λ r. ⌜ r ≡ lowered (linesKernel (numbers p) (elements p) n c (entry narrow) lines) (c + (n - length (chosen n lines))) best ⌝ }
 {
     let r = u16::count_ones(lines) as usize;
     let size = c + (n - r);
@@ -107,7 +108,7 @@ fn tried(p: u16, narrow: [[u8; 8]; 8], n: usize, c: usize, lines: u16, best: usi
 // The same for all choices of lines.
 fn over_lines(p: u16, narrow: [[u8; 8]; 8], n: usize, c: usize, best: usize) -> usize
     requires { ⌜ Modulus p × (n ≤ 8) × (c ≤ 8) × InField p n c narrow ⌝ }
-    ensures { λ r. ⌜ r ≡ overLines (numbers p) n c (entry narrow) (2 ^ n) best ⌝ }
+    ensures { λ r. ⌜ r ≡ overLines (numbers p) (elements p) n c (entry narrow) (2 ^ n) best ⌝ }
 {
     let end: u16 = 1 << n;
     let mut least = best;

@@ -5,124 +5,80 @@ use crate::branch;
 use crate::count;
 use crate::involution;
 use crate::multiply;
-use field::Outcome;
-use field::Refusal;
+use refusal::Outcome;
+use refusal::Refusal;
 ghost use mathlib.Core.Path.{_≡_};
-ghost use mathlib.Core.Bool.{false};
-ghost use Prim.Native.Nat.{_≤_};
+ghost use mathlib.Core.Bool.{_||_};
+ghost use mathlib.Core.List.{_++_};
+ghost use Prim.Native.Nat.{_-_, _≤_};
+ghost use lib.Dec.{ltb};
+ghost use lib.ListN.{getD, replicate};
+ghost use Rattle.refusal.specs.Refusals.{numberOf, answer, answerAfter, answerOf};
+ghost use Rattle.algebra.specs.Matrix.{apply, hadamard, det, branchNumber, isMds, isInvolution};
 ghost use Rattle.field.specs.Polynomial.{Modulus};
-ghost use Rattle.field.specs.Outcome.{numberOf, answerOf, accepted, refuse, overPolynomial};
-ghost use Rattle.matrix.specs.Numbers.{entry, InField, WordsInField};
-ghost use Rattle.matrix.specs.Orders.{HalvingOrder};
-ghost use Rattle.matrix.specs.Answers.{yesNo, isWrongOrder, isWrongHalvedOrder, someWordTooLarge, someEntryTooLarge, overMatrix};
-ghost use Rattle.matrix.specs.Answers.{determinantAnswer, branchAnswer, mdsAnswer, involutionAnswer, matrixCountAnswer, rowCountAnswer};
-ghost use Rattle.matrix.specs.Answers.{plainAnswer, halvedAnswer, checkOf, checkAnswer, checkRefused};
-ghost use Rattle.matrix.specs.Yields.{judged, wordsOf, refusedWords, plainWords, halvedWords, checkFound, checkedOf};
+ghost use Rattle.matrix.specs.Numbers.{numbers, elements, entry};
+ghost use Rattle.matrix.specs.Steps.Conditions.{InField};
+ghost use Rattle.matrix.specs.Counts.{rowCount, matrixCount};
+ghost use Rattle.matrix.specs.Answers.{yesNo, isWrongOrder, isWrongHalvedOrder, someWordTooLarge, someEntryTooLarge, valueFaults, matrixFaults};
+ghost use Rattle.matrix.specs.Answers.{wordsOf, checkFound, checkedOf, checkOf};
+ghost use Rattle.matrix.specs.Steps.Calls.{someValueTooLarge};
 
-// ---- what is judged
+// ---- faults
 
 // Whether one of the first n words is 2^m or more, m the degree.
 fn word_too_large(p: u16, row: [u8; 8], n: usize) -> bool
     requires { ⌜ Modulus p × (n ≤ 8) ⌝ }
     ensures { λ r. ⌜ r ≡ someWordTooLarge p n row ⌝ }
 {
+    let mut large = false;
     let mut j = 0;
     while j < n {
-        if field::too_large(p, row[j] as u32) {
-            return true;
-        }
+        large = field::too_large(p, row[j] as u32) | large;
         j += 1;
     }
-    false
+    large
 }
 
-// Whether an entry of the first n lines and columns is 2^m or more.
-fn entry_too_large(p: u16, m: [[u8; 8]; 8], n: usize) -> bool
-    requires { ⌜ Modulus p × (n ≤ 8) ⌝ }
-    ensures { λ r. ⌜ r ≡ someEntryTooLarge p n (entry m) ⌝ }
+// Whether one of the words of the first r lines, or of the row beside them, is 2^m or more, n words each.
+fn value_too_large(p: u16, m: [[u8; 8]; 8], r: usize, row: [u8; 8], n: usize) -> bool
+    requires { ⌜ Modulus p × (r ≤ 8) × (n ≤ 8) ⌝ }
+    ensures { λ some. ⌜ some ≡ someValueTooLarge p m r row n ⌝ }
 {
+    let mut large = false;
     let mut i = 0;
-    while i < n {
+    while i < r {
         let line = m[i];
-        if word_too_large(p, line, n) {
-            return true;
-        }
+        large = word_too_large(p, line, n) | large;
         i += 1;
     }
-    false
+    large | word_too_large(p, row, n)
 }
 
-// Whether the order is none from 1 to 8.
-fn wrong_order(n: u32) -> bool
-    ensures { λ r. ⌜ r ≡ isWrongOrder n ⌝ }
-{
-    n == 0 || 8 < n
-}
-
-// Whether the order is none of the halved product's: 1, 2, 4 or 8.
-fn wrong_halved_order(n: u32) -> bool
-    ensures { λ r. ⌜ r ≡ isWrongHalvedOrder n ⌝ }
-{
-    match n {
-        1 | 2 | 4 | 8 => false,
-        _ => true,
-    }
-}
-
-// The refusal where the fault is there, else the value 0.
-fn refused_if(fault: bool, reason: Refusal) -> Outcome
-    ensures { λ r. ⌜ answerOf r ≡ refuse (numberOf reason) fault (accepted 0) ⌝ }
-{
-    if fault {
-        Outcome::Refused(reason)
-    } else {
-        Outcome::Value(0)
-    }
-}
-
-// 3 and 4 for the polynomial, 5 where the order is wrong, else the value 0.
-fn order_fault(p: u32, wrong: bool) -> Outcome
-    ensures { λ r. ⌜ answerOf r ≡ overPolynomial p (refuse 5 wrong (accepted 0)) ⌝ }
+// The first fault of a call, else the value 0: 3 and 4 for the polynomial, 5 where the order is wrong or above 8, 7 for a value of the
+// first r lines or of the row beside them.
+fn first_fault(p: u32, wrong: bool, m: [[u8; 8]; 8], r: u32, row: [u8; 8], n: u32) -> Outcome
+    requires { ⌜ (n ≤ 8 → r ≤ 8) ⌝ }
+    ensures { λ o. ⌜ answerOf o ≡ answerAfter 0 (valueFaults p (wrong || ltb 8 n) (someValueTooLarge p m r row n)) 0 ⌝ }
 {
     match field::checked_degree(p) {
-        Outcome::Refused(r) => Outcome::Refused(r),
-        Outcome::Value(_) => refused_if(wrong, Refusal::OrderRange),
+        Outcome::Refused(reason) => Outcome::Refused(reason),
+        Outcome::Value(_) => {
+            if wrong | (8 < n) {
+                return Outcome::Refused(Refusal::OrderRange);
+            }
+            if value_too_large(p as u16, m, r as usize, row, n as usize) {
+                return Outcome::Refused(Refusal::ValueRange);
+            }
+            Outcome::Value(0)
+        }
     }
 }
 
-// The same, and 7 for an entry of the first n lines and columns.
-fn block_fault(p: u32, m: [[u8; 8]; 8], n: u32, wrong: bool) -> Outcome
-    requires { ⌜ (wrong ≡ false → n ≤ 8) ⌝ }
-    ensures { λ r. ⌜ answerOf r ≡ judged p wrong (someEntryTooLarge p n (entry m)) (accepted 0) ⌝ }
-{
-    match order_fault(p, wrong) {
-        Outcome::Refused(r) => Outcome::Refused(r),
-        Outcome::Value(_) => refused_if(
-            entry_too_large(p as u16, m, n as usize),
-            Refusal::ValueRange,
-        ),
-    }
-}
-
-// The same, and 7 for a word of a row of n words.
-fn row_fault(p: u32, row: [u8; 8], n: u32, wrong: bool) -> Outcome
-    requires { ⌜ (wrong ≡ false → n ≤ 8) ⌝ }
-    ensures { λ r. ⌜ answerOf r ≡ judged p wrong (someWordTooLarge p n row) (accepted 0) ⌝ }
-{
-    match order_fault(p, wrong) {
-        Outcome::Refused(r) => Outcome::Refused(r),
-        Outcome::Value(_) => refused_if(
-            word_too_large(p as u16, row, n as usize),
-            Refusal::ValueRange,
-        ),
-    }
-}
-
-// The refusals of a matrix of order 1 to 8.
+// The first fault of a matrix of order 1 to 8. The row of zeros beside it is never too large.
 fn matrix_fault(p: u32, m: [[u8; 8]; 8], n: u32) -> Outcome
-    ensures { λ r. ⌜ answerOf r ≡ overMatrix p n (entry m) (accepted 0) ⌝ }
+    ensures { λ r. ⌜ answerOf r ≡ answerAfter 0 (matrixFaults p n (entry m)) 0 ⌝ }
 {
-    block_fault(p, m, n, wrong_order(n))
+    first_fault(p, n == 0, m, n, [0u8; 8], n)
 }
 
 // ---- calls that yield a number
@@ -136,9 +92,9 @@ fn yes_no(b: bool) -> u32
 
 // The determinant of a block of size 0 to 8.
 pub fn checked_determinant(p: u32, m: [[u8; 8]; 8], n: u32) -> Outcome
-    ensures { λ r. ⌜ answerOf r ≡ determinantAnswer p n (entry m) ⌝ }
+    ensures { λ r. ⌜ answerOf r ≡ answerAfter 0 (valueFaults p (ltb 8 n) (someEntryTooLarge p n (entry m))) (det (numbers p) n (entry m)) ⌝ }
 {
-    match block_fault(p, m, n, 8 < n) {
+    match first_fault(p, false, m, n, [0u8; 8], n) {
         Outcome::Refused(r) => Outcome::Refused(r),
         Outcome::Value(_) => Outcome::Value(block::determinant(p as u16, m, n as usize) as u32),
     }
@@ -146,7 +102,7 @@ pub fn checked_determinant(p: u32, m: [[u8; 8]; 8], n: u32) -> Outcome
 
 // The branch number of a matrix of order 1 to 8.
 pub fn checked_branch_number(p: u32, m: [[u8; 8]; 8], n: u32) -> Outcome
-    ensures { λ r. ⌜ answerOf r ≡ branchAnswer p n (entry m) ⌝ }
+    ensures { λ r. ⌜ answerOf r ≡ answerAfter 0 (matrixFaults p n (entry m)) (branchNumber (numbers p) (elements p) n (entry m)) ⌝ }
 {
     match matrix_fault(p, m, n) {
         Outcome::Refused(r) => Outcome::Refused(r),
@@ -156,7 +112,7 @@ pub fn checked_branch_number(p: u32, m: [[u8; 8]; 8], n: u32) -> Outcome
 
 // Whether it is MDS: whether every square block has a nonzero determinant.
 pub fn checked_mds(p: u32, m: [[u8; 8]; 8], n: u32) -> Outcome
-    ensures { λ r. ⌜ answerOf r ≡ mdsAnswer p n (entry m) ⌝ }
+    ensures { λ r. ⌜ answerOf r ≡ answerAfter 0 (matrixFaults p n (entry m)) (yesNo (isMds (numbers p) (elements p) n (entry m))) ⌝ }
 {
     match matrix_fault(p, m, n) {
         Outcome::Refused(r) => Outcome::Refused(r),
@@ -172,7 +128,7 @@ pub fn checked_mds(p: u32, m: [[u8; 8]; 8], n: u32) -> Outcome
 
 // Whether it is an involution.
 pub fn checked_involution(p: u32, m: [[u8; 8]; 8], n: u32) -> Outcome
-    ensures { λ r. ⌜ answerOf r ≡ involutionAnswer p n (entry m) ⌝ }
+    ensures { λ r. ⌜ answerOf r ≡ answerAfter 0 (matrixFaults p n (entry m)) (yesNo (isInvolution (numbers p) (elements p) n (entry m))) ⌝ }
 {
     match matrix_fault(p, m, n) {
         Outcome::Refused(r) => Outcome::Refused(r),
@@ -186,7 +142,7 @@ pub fn checked_involution(p: u32, m: [[u8; 8]; 8], n: u32) -> Outcome
 
 // Its XOR count.
 pub fn checked_matrix_count(p: u32, m: [[u8; 8]; 8], n: u32) -> Outcome
-    ensures { λ r. ⌜ answerOf r ≡ matrixCountAnswer p n (entry m) ⌝ }
+    ensures { λ r. ⌜ answerOf r ≡ answerAfter 0 (matrixFaults p n (entry m)) (matrixCount p n (entry m)) ⌝ }
 {
     match matrix_fault(p, m, n) {
         Outcome::Refused(r) => Outcome::Refused(r),
@@ -194,11 +150,11 @@ pub fn checked_matrix_count(p: u32, m: [[u8; 8]; 8], n: u32) -> Outcome
     }
 }
 
-// The XOR count of a row of 1 to 8 elements.
+// The XOR count of a row of 1 to 8 elements. No line beside it is looked at.
 pub fn checked_row_count(p: u32, row: [u8; 8], n: u32) -> Outcome
-    ensures { λ r. ⌜ answerOf r ≡ rowCountAnswer p n row ⌝ }
+    ensures { λ r. ⌜ answerOf r ≡ answerAfter 0 (valueFaults p (isWrongOrder n) (someWordTooLarge p n row)) (rowCount p n (λ j. getD row j 0)) ⌝ }
 {
-    match row_fault(p, row, n, wrong_order(n)) {
+    match first_fault(p, n == 0, [row; 8], 0, row, n) {
         Outcome::Refused(r) => Outcome::Refused(r),
         Outcome::Value(_) => Outcome::Value(count::row_count(p as u16, row, n as usize)),
     }
@@ -214,7 +170,7 @@ pub struct Words {
 
 // A call for words that is refused.
 fn no_words(reason: Refusal) -> Words
-    ensures { λ r. ⌜ wordsOf r ≡ refusedWords (numberOf reason) ⌝ }
+    ensures { λ r. ⌜ wordsOf r ≡ answer (numberOf reason) (replicate 8 0) ⌝ }
 {
     let words = [0u8; 8];
     Words {
@@ -225,49 +181,36 @@ fn no_words(reason: Refusal) -> Words
 
 // The plain product of a matrix with an input.
 pub fn checked_plain(p: u32, m: [[u8; 8]; 8], x: [u8; 8], n: u32) -> Words
-    ensures { λ r. ⌜ wordsOf r ≡ plainAnswer p n (entry m) x ⌝ }
+    ensures { λ r. ⌜ wordsOf r ≡ answerAfter (replicate 8 0) (valueFaults p (isWrongOrder n) (someEntryTooLarge p n (entry m) || someWordTooLarge p n x))
+        (apply (numbers p) n (entry m) x ++ replicate (8 - n) 0) ⌝ }
 {
-    match matrix_fault(p, m, n) {
+    match first_fault(p, n == 0, m, n, x, n) {
         Outcome::Refused(r) => no_words(r),
-        Outcome::Value(_) => plain_over(p as u16, m, x, n as usize),
-    }
-}
-
-fn plain_over(p: u16, m: [[u8; 8]; 8], x: [u8; 8], n: usize) -> Words
-    requires { ⌜ Modulus p × (n ≤ 8) × InField p n n m ⌝ }
-    ensures { λ r. ⌜ wordsOf r ≡ plainWords p n (entry m) x ⌝ }
-{
-    if word_too_large(p, x, n) {
-        return no_words(Refusal::ValueRange);
-    }
-    let words = multiply::plain(p, m, x, n);
-    Words {
-        outcome: Outcome::Value(0),
-        words: words,
+        Outcome::Value(_) => {
+            let words = multiply::plain(p as u16, m, x, n as usize);
+            Words {
+                outcome: Outcome::Value(0),
+                words: words,
+            }
+        }
     }
 }
 
 // The product of a row's Hadamard matrix with an input, by halves.
 pub fn checked_halved(p: u32, row: [u8; 8], x: [u8; 8], n: u32) -> Words
-    ensures { λ r. ⌜ wordsOf r ≡ halvedAnswer p n row x ⌝ }
+    ensures { λ r. ⌜ wordsOf r ≡ answerAfter (replicate 8 0) (valueFaults p (isWrongHalvedOrder n) (someWordTooLarge p n row || someWordTooLarge p n x))
+        (apply (numbers p) n (hadamard (numbers p) row) x ++ replicate (8 - n) 0) ⌝ }
 {
-    match row_fault(p, row, n, wrong_halved_order(n)) {
+    let right = (n == 1) | (n == 2) | (n == 4) | (n == 8);
+    match first_fault(p, !right, [row; 8], 1, x, n) {
         Outcome::Refused(r) => no_words(r),
-        Outcome::Value(_) => halved_over(p as u16, row, x, n as usize),
-    }
-}
-
-fn halved_over(p: u16, row: [u8; 8], x: [u8; 8], n: usize) -> Words
-    requires { ⌜ Modulus p × HalvingOrder n × WordsInField p n row ⌝ }
-    ensures { λ r. ⌜ wordsOf r ≡ halvedWords p n row x ⌝ }
-{
-    if word_too_large(p, x, n) {
-        return no_words(Refusal::ValueRange);
-    }
-    let words = multiply::halved(p, row, x, n);
-    Words {
-        outcome: Outcome::Value(0),
-        words: words,
+        Outcome::Value(_) => {
+            let words = multiply::halved(p as u16, row, x, n as usize);
+            Words {
+                outcome: Outcome::Value(0),
+                words: words,
+            }
+        }
     }
 }
 
@@ -303,7 +246,7 @@ pub fn check(p: u16, m: [[u8; 8]; 8], n: usize) -> Found
 
 // A check that is refused.
 fn no_check(reason: Refusal) -> Checked
-    ensures { λ r. ⌜ checkedOf r ≡ checkRefused (numberOf reason) ⌝ }
+    ensures { λ r. ⌜ checkedOf r ≡ answer (numberOf reason) (replicate 4 0) ⌝ }
 {
     let found = Found {
         branch: 0,
@@ -319,7 +262,7 @@ fn no_check(reason: Refusal) -> Checked
 
 // The check of a matrix of order 1 to 8.
 pub fn checked_check(p: u32, m: [[u8; 8]; 8], n: u32) -> Checked
-    ensures { λ r. ⌜ checkedOf r ≡ checkAnswer p n (entry m) ⌝ }
+    ensures { λ r. ⌜ checkedOf r ≡ answerAfter (replicate 4 0) (matrixFaults p n (entry m)) (checkOf p n (entry m)) ⌝ }
 {
     match matrix_fault(p, m, n) {
         Outcome::Refused(r) => no_check(r),

@@ -1,15 +1,16 @@
 // The products of a matrix with an input: the plain one, and the one by halves for a Hadamard matrix.
 
 ghost use mathlib.Core.Path.{_≡_};
-ghost use mathlib.Core.List.{_++_};
-ghost use Prim.Native.Nat.{ℕ, _+_, _-_, _≤_, _<_};
+ghost use mathlib.Core.List.{_++_, foldl};
+ghost use Prim.Native.Nat.{_+_, _-_, _≤_, _<_};
 ghost use lib.Bits.{bitXor};
-ghost use lib.ListN.{getD, replicate};
+ghost use lib.ListN.{getD, take, replicate};
 ghost use lib.Seq.{paste};
-ghost use Rattle.algebra.specs.Matrix.{tabulate, sum, apply, hadamard};
+ghost use Rattle.algebra.specs.Matrix.{sum, apply, hadamard};
 ghost use Rattle.field.specs.Polynomial.{_⊕_, Modulus, product};
-ghost use Rattle.matrix.specs.Orders.{HalvingOrder};
-ghost use Rattle.matrix.specs.Numbers.{numbers, entry, InField, WordsInField};
+ghost use Rattle.matrix.specs.Steps.Conditions.{HalvingOrder, InField, WordsInField};
+ghost use Rattle.matrix.specs.Steps.Blocks.{filled, framed};
+ghost use Rattle.matrix.specs.Numbers.{numbers, entry};
 
 // The sum of the products of the first n words of a line and an input.
 fn dot(p: u16, line: [u8; 8], x: [u8; 8], n: usize) -> u8
@@ -43,7 +44,7 @@ pub fn plain(p: u16, m: [[u8; 8]; 8], x: [u8; 8], n: usize) -> [u8; 8]
 // The exclusive or of the first n words of a row.
 pub fn xor_of(row: [u8; 8], n: usize) -> u8
     requires { ⌜ n ≤ 8 ⌝ }
-    ensures { λ r. ⌜ ((p : ℕ) → r ≡ sum (numbers p) n (λ i. getD row i 0)) ⌝ }
+    ensures { λ r. ⌜ r ≡ foldl _⊕_ 0 (take n row) ⌝ }
 {
     let mut r: u8 = 0;
     let mut i = 0;
@@ -57,7 +58,7 @@ pub fn xor_of(row: [u8; 8], n: usize) -> u8
 // Line i of the Hadamard matrix of a row, of order n, and zeros behind it.
 fn hadamard_line(row: [u8; 8], i: usize, n: usize) -> [u8; 8]
     requires { ⌜ HalvingOrder n × (i < n) ⌝ }
-    ensures { λ r. ⌜ r ≡ tabulate n (λ j. getD row (bitXor i j) 0) ++ replicate (8 - n) 0 ⌝ }
+    ensures { λ r. ⌜ r ≡ filled 0 (λ j. getD row (bitXor i j) 0) n ⌝ }
 {
     let mut r = [0u8; 8];
     let mut j = 0;
@@ -68,10 +69,10 @@ fn hadamard_line(row: [u8; 8], i: usize, n: usize) -> [u8; 8]
     r
 }
 
-// The Hadamard matrix of a row, of order n.
+// The Hadamard matrix of a row, of order n, and zeros elsewhere.
 pub fn hadamard_matrix(row: [u8; 8], n: usize) -> [[u8; 8]; 8]
     requires { ⌜ HalvingOrder n ⌝ }
-    ensures { λ r. ⌜ ((p i j : ℕ) → i < n → j < n → entry r i j ≡ hadamard (numbers p) row i j) ⌝ }
+    ensures { λ r. ⌜ r ≡ framed n n (λ i j. getD row (bitXor i j) 0) ⌝ }
 {
     let mut r = [[0u8; 8]; 8];
     let mut i = 0;
@@ -85,7 +86,7 @@ pub fn hadamard_matrix(row: [u8; 8], n: usize) -> [[u8; 8]; 8]
 // The n words of an array from a place on, and zeros behind them.
 fn part(a: [u8; 8], from: usize, n: usize) -> [u8; 8]
     requires { ⌜ from + n ≤ 8 ⌝ }
-    ensures { λ r. ⌜ r ≡ tabulate n (λ i. getD a (from + i) 0) ++ replicate (8 - n) 0 ⌝ }
+    ensures { λ r. ⌜ r ≡ filled 0 (λ i. getD a (from + i) 0) n ⌝ }
 {
     let mut r = [0u8; 8];
     let mut i = 0;
@@ -99,7 +100,7 @@ fn part(a: [u8; 8], from: usize, n: usize) -> [u8; 8]
 // The sum of the first n words of two arrays, word by word, and zeros behind it.
 fn added(a: [u8; 8], b: [u8; 8], n: usize) -> [u8; 8]
     requires { ⌜ n ≤ 8 ⌝ }
-    ensures { λ r. ⌜ r ≡ tabulate n (λ i. getD a i 0 ⊕ getD b i 0) ++ replicate (8 - n) 0 ⌝ }
+    ensures { λ r. ⌜ r ≡ filled 0 (λ i. getD a i 0 ⊕ getD b i 0) n ⌝ }
 {
     let mut r = [0u8; 8];
     let mut i = 0;

@@ -2,12 +2,13 @@
 
 ghost use Prim.Native.Nat.{_≤_};
 ghost use lib.ListN.{length};
-ghost use Rattle.answer.specs.Shown.{Shown};
+ghost use Rattle.answer.specs.Answered.{Shown};
 
-// Answers a request. The result is how many bytes of the space are to be shown: the answer text, or the line of a refusal.
+// Answers a request. The result is how many bytes of the space are to be shown: the answer text, or the line of a refusal; the bytes
+// behind them are as before.
 fn respond(request: &[u8], space: &mut [u8]) -> usize
     requires { ⌜ 583 ≤ length (now space) ⌝ }
-    ensures { λ r. ⌜ Shown (now (request .entry)) (now (space .exit)) r × (r ≤ length (now (space .entry))) ⌝ }
+    ensures { λ r. ⌜ Shown (now (request .entry)) (now (space .entry)) (now (space .exit)) r ⌝ }
 {
     let reply = answer::answer(request, space);
     if reply.number == 0 { reply.length } else { 7 }

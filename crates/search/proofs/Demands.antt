@@ -2,24 +2,36 @@
 -- number order plus one, and every other row over these elements with both properties has a larger XOR count, or the same count
 -- and a later place. `demand-three-none`: nothing is answered exactly if no row over these elements has both properties.
 -- `demand-three-only`: no other row is demanded. `order-of-candidates`: the order of the brief's elements does not matter.
--- Assumes nothing.
+-- They are the theorems `shape-row`, `shape-none`, `shape-only` of any shape, at Hadamard matrices. Assumes nothing.
 use mathlib.Core.Path.{_≡_, refl, sym, _∙_}
-use mathlib.Core.Logic.{_↔_, _⊎_, inl, inr, ⊎-elim}
-use mathlib.Core.Bool.{Bool, true, false, true≢false}
+use mathlib.Core.Logic.{_≢_, _↔_, _⊎_, inl, inr, ⊎-elim}
+use mathlib.Core.Bool.{Bool, true, false, not, _||_, true≢false, false≢true}
 use mathlib.Core.List.{List, List·Memᴰ}
 use Prim.Native.Nat.{ℕ, suc, _+_, _-_, _*_, _^_, _<_}
 use native.Mathlib.Omega.{arith}
 use borrow.Author.Tests.{eqb-true, eq-eqb}
-use Rattle.algebra.specs.Matrix.{hadamard, isMds, isInvolution}
+use lib.ListN.{length}
+use Rattle.algebra.specs.Matrix.{hadamard, branchNumber, isMds, isInvolution}
 use Rattle.algebra.proofs.Involution.{and-left, and-right}
 use Rattle.field.specs.Polynomial.{degree}
 use Rattle.matrix.specs.Numbers.{numbers, elements}
 use Rattle.matrix.specs.Counts.{rowCount}
 use Rattle.search.specs.Lightest.{Earlier, nothing, found, rowsOver}
-use Rattle.search.specs.Answer.{isGood, keyOf, lightestRow}
-use Rattle.search.specs.Demands.{Both, countOfRow, Before, Demanded}
-use Rattle.search.proofs.Rows.{mem-rows, sorted-rows}
-use Rattle.search.proofs.Demand.{none-sorted, row-sorted, unique-sorted, same-answer}
+use Rattle.search.specs.Shape.{Shape, rowMatrix, isGood, hadamardShape}
+use Rattle.search.specs.Answer.{keyOf, lightestRow}
+use Rattle.search.specs.Demands.{countOfRow, Before, FirstOf, Both, Demanded}
+use Rattle.search.proofs.Rows.{mem-rows, sorted-rows, not-passed}
+use Rattle.search.proofs.Lightest.{none-sorted, row-sorted, unique-sorted, same-answer}
+
+-- a row over the brief's elements with what a shape asks for: its matrix of that shape has branch number order plus one, and is an
+-- involution where it has to be
+pub record Suited (shape : Shape) (p n : ℕ) (candidates row : List ℕ) : Type 0 where
+  pub entries : length row ≡ n
+  pub over : (a : ℕ) → List·Memᴰ a row → List·Memᴰ a candidates
+  pub involution : shape .involutory ≡ true → isInvolution (numbers p) (elements p) n (rowMatrix shape n row) ≡ true
+  pub branch : branchNumber (numbers p) (elements p) n (rowMatrix shape n row) ≡ suc n
+
+-- ---- counts
 
 -- the row's count is the key and a number that only the order and the polynomial decide
 pub count-key : (p n : ℕ) (row : List ℕ) → countOfRow p n row ≡ keyOf p n row + (n - 1) * degree p
@@ -37,57 +49,90 @@ before-key p n r s h =
     ⊎-elim (λ (l : countOfRow p n r < countOfRow p n s). inl (omega (arith, count-key p n r, count-key p n s)))
     (λ q. inr (omega (arith, q .0, count-key p n r, count-key p n s), q .1)) h
 
-module _ (p n : ℕ) (candidates : List ℕ) (fits : (a : ℕ) → List·Memᴰ a candidates → a < 2 ^ degree p) where
-  abbrev rows : List (List ℕ)
-  rows = rowsOver (2 ^ degree p) candidates n
+-- ---- any shape
 
-  -- a good row over the candidates has both properties
-  both-of : (r : List ℕ) → List·Memᴰ r rows → isGood p n r ≡ true → Both p n candidates r
+-- a test that is made only where it is asked for
+where-asked : (asked x : Bool) → (not asked || x) ≡ true → asked ≡ true → x ≡ true
+where-asked true x e a = e
+where-asked false x e a = absurd (false≢true a)
+
+asked-where : (asked x : Bool) → (asked ≡ true → x ≡ true) → (not asked || x) ≡ true
+asked-where true x h = h refl
+asked-where false x h = refl
+
+module _ (shape : Shape) (p n : ℕ) (candidates : List ℕ) (fits : (a : ℕ) → List·Memᴰ a candidates → a < 2 ^ degree p) where
+  -- a good row over the candidates has what the shape asks for
+  suited-of : (r : List ℕ) → List·Memᴰ r (rowsOver (2 ^ degree p) candidates n) → isGood shape p n r ≡ true → Suited shape p n candidates r
   unfolding isGood isMds
-  both-of r m g =
+  suited-of r m g =
       let (l, over) = mem-rows (2 ^ degree p) candidates n r .0 m in
       record {
         entries = l;
         over = λ a i. over a i .0;
-        involution = and-left _ _ g;
-        branch = eqb-true _ (suc n) (and-right (isInvolution (numbers p) (elements p) n (hadamard (numbers p) r)) _ g);
+        involution = where-asked (shape .involutory) _ (and-left _ _ g);
+        branch = eqb-true _ (suc n) (and-right (not (shape .involutory) || _) _ g);
       }
 
-  -- a row with both properties is one of the rows, and good
-  of-both : (r : List ℕ) → Both p n candidates r → List·Memᴰ r rows × (isGood p n r ≡ true)
+  -- a row that has it is one of the rows, and good
+  of-suited : (r : List ℕ) → Suited shape p n candidates r → List·Memᴰ r (rowsOver (2 ^ degree p) candidates n) × (isGood shape p n r ≡ true)
   unfolding isGood isMds
-  of-both r b =
-      (mem-rows (2 ^ degree p) candidates n r .1 (b .entries, λ a i. (b .over a i, fits a (b .over a i))), rw (b .involution) (eq-eqb _ (suc n) (b .branch)))
+  of-suited r b = (
+    mem-rows (2 ^ degree p) candidates n r .1 (b .entries, λ a i. (b .over a i, fits a (b .over a i))),
+    rw (asked-where (shape .involutory) _ (b .involution)) (eq-eqb _ (suc n) (b .branch)),
+  )
 
-  pub demand-three : (r : List ℕ) → lightestRow p n candidates ≡ found r → Demanded p n candidates r
+  pub shape-row : (r : List ℕ) → lightestRow shape p n candidates ≡ found r → FirstOf (Suited shape p n candidates) p n r
   unfolding lightestRow
-  demand-three r e =
-      let d = row-sorted (isGood p n) (keyOf p n) (sorted-rows (2 ^ degree p) candidates n) r e in
+  shape-row r e =
+      let d = row-sorted (isGood shape p n) (keyOf p n) (sorted-rows (2 ^ degree p) candidates n) r e in
       record {
-        both = both-of r (d .isRow) (d .isGood);
-        first = λ s b q. let (m, g) = of-both s b in key-before p n r s (d .isFirst s m g q);
+        has = suited-of r (d .isRow) (d .isGood);
+        first = λ s b q. let (m, g) = of-suited s b in key-before p n r s (d .isFirst s m g q);
       }
 
-  pub demand-three-none : (lightestRow p n candidates ≡ nothing) ↔ ((r : List ℕ) → Both p n candidates r → ⊥)
+  pub shape-none : (lightestRow shape p n candidates ≡ nothing) ↔ ((r : List ℕ) → Suited shape p n candidates r → ⊥)
   unfolding lightestRow
-  demand-three-none =
-      let none = none-sorted (isGood p n) (keyOf p n) (sorted-rows (2 ^ degree p) candidates n) in (
-        λ e r b. let (m, g) = of-both r b in true≢false (sym g ∙ none .0 e r m),
-        λ h. none .1 (λ r m. not-good r (isGood p n r) refl (λ g. h r (both-of r m g))),
+  shape-none =
+      let none = none-sorted (isGood shape p n) (keyOf p n) (sorted-rows (2 ^ degree p) candidates n) in (
+        λ e r b. let (m, g) = of-suited r b in true≢false (sym g ∙ none .0 e r m),
+        λ h. none .1 (λ r m. not-passed (isGood shape p n r) (λ g. h r (suited-of r m g))),
       )
-    where
-      not-good : (r : List ℕ) (t : Bool) → isGood p n r ≡ t → (isGood p n r ≡ true → ⊥) → isGood p n r ≡ false
-      not-good r true e h = absurd (h e)
-      not-good r false e h = e
 
-  pub demand-three-only : (r : List ℕ) → Demanded p n candidates r → lightestRow p n candidates ≡ found r
+  pub shape-only : (r : List ℕ) → FirstOf (Suited shape p n candidates) p n r → lightestRow shape p n candidates ≡ found r
   unfolding lightestRow
-  demand-three-only r d =
-      let (m, g) = of-both r (d .both) in
-      unique-sorted (isGood p n) (keyOf p n) (sorted-rows (2 ^ degree p) candidates n) r
-      (record { isRow = m; isGood = g; isFirst = λ s i t q. before-key p n r s (d .first s (both-of s i t) q) })
+  shape-only r d =
+      let (m, g) = of-suited r (d .has) in
+      unique-sorted (isGood shape p n) (keyOf p n) (sorted-rows (2 ^ degree p) candidates n) r
+      (record { isRow = m; isGood = g; isFirst = λ s i t q. before-key p n r s (d .first s (suited-of s i t) q) })
 
-pub order-of-candidates : (p n : ℕ) (candidates candidates′ : List ℕ) → ((a : ℕ) → List·Memᴰ a candidates ↔ List·Memᴰ a candidates′)
-    → lightestRow p n candidates ≡ lightestRow p n candidates′
+pub order-of-candidates : (shape : Shape) (p n : ℕ) (candidates candidates′ : List ℕ) → ((a : ℕ) → List·Memᴰ a candidates ↔ List·Memᴰ a candidates′)
+    → lightestRow shape p n candidates ≡ lightestRow shape p n candidates′
 unfolding lightestRow
-order-of-candidates p n candidates candidates′ same = same-answer (isGood p n) (keyOf p n) (2 ^ degree p) candidates candidates′ n same
+order-of-candidates shape p n candidates candidates′ same = same-answer (isGood shape p n) (keyOf p n) (2 ^ degree p) candidates candidates′ n same
+
+-- ---- Hadamard matrices, in the customer's words
+
+-- rows that have the same have the same first
+same-first : (P Q : List ℕ → Type 0) → ((s : List ℕ) → P s ↔ Q s) → (p n : ℕ) (r : List ℕ) → FirstOf P p n r → FirstOf Q p n r
+same-first P Q same p n r d = record { has = same r .0 (d .has); first = λ s q. d .first s (same s .1 q) }
+
+module _ (p n : ℕ) (candidates : List ℕ) where
+  suited-both : (r : List ℕ) → Suited hadamardShape p n candidates r ↔ Both p n candidates r
+  unfolding rowMatrix hadamardShape hadamard
+  suited-both r = (
+    λ s. record { entries = s .entries; over = s .over; involution = s .involution refl; branch = s .branch },
+    λ b. record { entries = b .entries; over = b .over; involution = λ asked. b .involution; branch = b .branch },
+  )
+
+  module _ (fits : (a : ℕ) → List·Memᴰ a candidates → a < 2 ^ degree p) where
+    pub demand-three : (r : List ℕ) → lightestRow hadamardShape p n candidates ≡ found r → Demanded p n candidates r
+    demand-three r e = same-first _ _ suited-both p n r (shape-row hadamardShape p n candidates fits r e)
+
+    pub demand-three-none : (lightestRow hadamardShape p n candidates ≡ nothing) ↔ ((r : List ℕ) → Both p n candidates r → ⊥)
+    demand-three-none =
+        let none = shape-none hadamardShape p n candidates fits in
+        (λ e r b. none .0 e r (suited-both r .1 b), λ h. none .1 (λ r s. h r (suited-both r .0 s)))
+
+    pub demand-three-only : (r : List ℕ) → Demanded p n candidates r → lightestRow hadamardShape p n candidates ≡ found r
+    demand-three-only r d =
+        shape-only hadamardShape p n candidates fits r (same-first _ _ (λ s. (suited-both s .1, suited-both s .0)) p n r d)

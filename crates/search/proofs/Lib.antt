@@ -1,14 +1,14 @@
 -- The theory of the search, and the laws that its code is proved by.
 pub mod Rows
-pub mod Demand
-pub mod Walk
-pub mod Canonical
-pub mod Seven
-pub mod Good
+pub mod Lightest
 pub mod Demands
-pub mod Twin
-pub mod Costs
+pub mod Walk
 pub mod Pruning
-pub mod Steps
+pub mod IndexMaps
+pub mod HadamardRows
+pub mod Executable
+pub mod LetterCounts
+pub mod HadamardCuts
+pub mod Prefixes
 pub mod Start
 pub mod Refusals

@@ -1,9 +1,9 @@
--- The tests of what a search is given, value by value, and the chain of its refusals.
+-- The tests of what a search is given, value by value, and the row kept as an answer.
 -- Assumes nothing.
 use mathlib.Core.Path.{_≡_, refl, sym, ap, ap₂, _∙_}
 use mathlib.Core.Logic.{_⊎_, inl, inr}
-use mathlib.Core.Bool.{Bool, true, false, cond, not, _||_, or-false, true≢false}
-use mathlib.Core.List.{List, []}
+use mathlib.Core.Bool.{Bool, true, false, not, _||_, or-false, true≢false}
+use mathlib.Core.List.{List, [], _∷_}
 use Prim.Native.Nat.{ℕ, suc, _+_, _-_, _≤_, _<_, _^_}
 use native.Mathlib.Numerals.{add-one}
 use native.Mathlib.Omega.{arith}
@@ -11,14 +11,17 @@ use lib.Dec.{eqb, ltb}
 use lib.ListN.{length, getD, take, drop, length-drop, drop-of-length-le}
 use lib.Seq.{drop-cons, take-all}
 use borrow.Author.Tests.{eqb-true, ne-eqb, le-leb, lt-leb}
-use Rattle.field.specs.Polynomial.{Modulus, degree, isIrreducible}
-use Rattle.field.specs.Outcome.{isOutside, isTooLarge, numberOf, Answer, refused, accepted, refuse, overPolynomial, degreeAnswer}
-use Rattle.field.proofs.Calls.{inside, degree-refused}
-use Rattle.field.specs.declared.Refusal.{Refusal}
+use Rattle.refusal.specs.Refusals.{fault, Answer, answer, answerAfter}
+use Rattle.refusal.specs.declared.Refusal.the-variants.{NoRow}
+use Rattle.refusal.proofs.Faults.{after-taken, after-left, after-empty}
+use Rattle.field.specs.Polynomial.{degree}
+use Rattle.field.specs.Faults.{isTooLarge}
+use Rattle.matrix.specs.Counts.{elementCount}
 use Rattle.search.specs.declared.Best.{Best as Kept}
-use Rattle.search.specs.Kept.{answerOver, saysBest}
-use Rattle.search.specs.Lightest.{member, Best, nothing, found}
-use Rattle.search.specs.Answer.{isWrongOrder, isWrongCount, someTooLarge, someRepeated, someBad, SearchAnswer, noRow, refuseSearch, bestAnswer, searchAnswer}
+use Rattle.search.specs.Lightest.{Best, member}
+use Rattle.search.specs.Answer.{sumOf, isWrongSearchOrder, isWrongSearchCount, someTooLarge, someRepeated, someBad, isNone, RowFound, noRow, rowFound}
+use Rattle.search.specs.Steps.Prefix.{kept, bestAs}
+use Rattle.search.proofs.Prefixes.{count-take, best-found, best-none}
 
 -- ---- a test of every value
 
@@ -83,17 +86,17 @@ module _ (p end a : ℕ) (size : end ≡ 2 ^ degree p) where
 
 -- ---- order and count
 
-pub order-four : (n : ℕ) → n ≡ 4 → false ≡ isWrongOrder n
-unfolding isWrongOrder
+pub order-four : (n : ℕ) → n ≡ 4 → false ≡ isWrongSearchOrder n
+unfolding isWrongSearchOrder
 order-four n e = rw e refl
 
-pub order-other : (n : ℕ) → (n ≡ 4 → ⊥) → not (eqb n 8) ≡ isWrongOrder n
-unfolding isWrongOrder
+pub order-other : (n : ℕ) → (n ≡ 4 → ⊥) → not (eqb n 8) ≡ isWrongSearchOrder n
+unfolding isWrongSearchOrder
 order-other n e = rw (ne-eqb n 4 e)
 
 -- an order that is not wrong
-pub order-of : (n : ℕ) → isWrongOrder n ≡ false → (n ≡ 4) ⊎ (n ≡ 8)
-unfolding isWrongOrder
+pub order-of : (n : ℕ) → isWrongSearchOrder n ≡ false → (n ≡ 4) ⊎ (n ≡ 8)
+unfolding isWrongSearchOrder
 order-of n e = go (eqb n 4) (eqb n 8) refl refl e
   where
     go : (a b : Bool) → eqb n 4 ≡ a → eqb n 8 ≡ b → not (a || b) ≡ false → (n ≡ 4) ⊎ (n ≡ 8)
@@ -101,20 +104,20 @@ order-of n e = go (eqb n 4) (eqb n 8) refl refl e
     go false true p q f = inr (eqb-true n 8 q)
     go false false p q f = absurd (true≢false f)
 
-pub count-zero : (n count : ℕ) → count ≡ 0 → true ≡ isWrongCount n count
-unfolding isWrongCount
+pub count-zero : (n count : ℕ) → count ≡ 0 → true ≡ isWrongSearchCount n count
+unfolding isWrongSearchCount
 count-zero n count e = rw e refl
 
-pub count-four : (n count : ℕ) → (count ≡ 0 → ⊥) → n ≡ 4 → ltb 255 count ≡ isWrongCount n count
-unfolding isWrongCount
+pub count-four : (n count : ℕ) → (count ≡ 0 → ⊥) → n ≡ 4 → ltb 255 count ≡ isWrongSearchCount n count
+unfolding isWrongSearchCount
 count-four n count e f = rw (ne-eqb count 0 e, f, or-false)
 
-pub count-eight : (n count : ℕ) → (count ≡ 0 → ⊥) → n ≡ 8 → ltb 16 count ≡ isWrongCount n count
-unfolding isWrongCount
+pub count-eight : (n count : ℕ) → (count ≡ 0 → ⊥) → n ≡ 8 → ltb 16 count ≡ isWrongSearchCount n count
+unfolding isWrongSearchCount
 count-eight n count e f = rw (ne-eqb count 0 e, f)
 
-pub count-other : (n count : ℕ) → (count ≡ 0 → ⊥) → (n ≡ 4 → ⊥) → (n ≡ 8 → ⊥) → false ≡ isWrongCount n count
-unfolding isWrongCount
+pub count-other : (n count : ℕ) → (count ≡ 0 → ⊥) → (n ≡ 4 → ⊥) → (n ≡ 8 → ⊥) → false ≡ isWrongSearchCount n count
+unfolding isWrongSearchCount
 count-other n count e f g = rw (ne-eqb count 0 e, ne-eqb n 4 f, ne-eqb n 8 g)
 
 -- ---- candidates
@@ -127,50 +130,28 @@ pub bad-repeated : (values : List ℕ) (r : Bool) → member 0 values ≡ false 
 unfolding someBad
 bad-repeated values r e f = rw e f
 
--- ---- the chain
-
-pub refuse-taken : (k : ℕ) (t : Bool) (rest : SearchAnswer) → t ≡ true → noRow k ≡ refuseSearch k t rest
-refuse-taken k t rest e = rw e refl
-
-pub refuse-left : (k : ℕ) (t : Bool) (rest : SearchAnswer) → t ≡ false → refuseSearch k t rest ≡ rest
-refuse-left k t rest e = rw e refl
-
 -- ---- the row kept as an answer
 
-abbrev answer : ℕ → ℕ → List ℕ → SearchAnswer
-answer number sum row = record { number = number; sum = sum; row = row }
+abbrev says : ℕ → ℕ → List ℕ → Answer RowFound
+says number sum row = answer number (record { sum = sum; row = row })
 
-pub says-found : (b : Kept) → b .found ≡ true → answer 0 (b .sum) (b .row) ≡ saysBest b
-says-found b e = ap (λ t. answer (cond t 0 9) (b .sum) (b .row)) (sym e)
+module _ (p n : ℕ) (b : Kept) (holds : b ≡ kept p n (bestAs n b)) where
+  abbrev nine : Best → Answer RowFound
+  nine best = answerAfter noRow (fault 9 (isNone best) ∷ []) (rowFound p n best)
 
-pub says-none : (b : Kept) → b .found ≡ false → b .sum ≡ 0 → answer 9 0 (b .row) ≡ saysBest b
-says-none b e f = ap₂ (λ t s. answer (cond t 0 9) s (b .row)) (sym e) (sym f)
+  -- a row was found
+  pub says-found : (sum : ℕ) → sum ≡ elementCount p n (λ j. getD (b .row) j 0) → b .found ≡ true → says 0 sum (b .row) ≡ nine (bestAs n b)
+  unfolding kept sumOf
+  says-found sum e f =
+      ap₂ (says 0) (e ∙ sym (count-take p n (b .row))) (ap (λ (x : Kept). x .row) (holds ∙ ap (kept p n) (best-found b n f)))
+      ∙ after-empty noRow _
+      ∙ after-left noRow _ 9 false [] refl
+      ∙ ap nine (sym (best-found b n f))
 
--- without a row the sum is 0
-pub says-empty : (p n : ℕ) (b : Kept) (best : Best) → saysBest b ≡ bestAnswer p n best → b .found ≡ false → b .sum ≡ 0
-says-empty p n b nothing e f = ap (λ (x : SearchAnswer). x .sum) e
-says-empty p n b (found row) e f =
-    let z : _≡_ {A = ℕ} 9 0 = ap (λ (t : Bool). cond t 0 9) (sym f) ∙ ap (λ (x : SearchAnswer). x .number) e in
-    absurd (omega arith)
-
--- ---- the polynomial
-
-module _ (p n : ℕ) (candidates : List ℕ) where
-  -- it passes
-  pub search-modulus : Modulus p → answerOver p n candidates ≡ searchAnswer p n candidates
-  unfolding searchAnswer
-  search-modulus h =
-      sym (refuse-left 3 (isOutside p) _ (inside p (h .low) (h .high)) ∙ refuse-left 4 (not (isIrreducible p)) _ (ap not (h .irreducible)))
-
-  -- it does not: the search is refused as its degree is
-  pub search-refused : (r : Refusal) → refused (numberOf r) ≡ degreeAnswer p → noRow (numberOf r) ≡ searchAnswer p n candidates
-  unfolding searchAnswer degreeAnswer overPolynomial
-  search-refused r e = from (isOutside p) (isIrreducible p) _ e (degree-refused p r (refused 1) e)
-    where
-      from : (a b : Bool) (rest : SearchAnswer) → refused (numberOf r) ≡ refuse 3 a (refuse 4 (not b) (accepted (degree p)))
-          → refused (numberOf r) ≡ refuse 3 a (refuse 4 (not b) (refused 1)) → noRow (numberOf r) ≡ refuseSearch 3 a (refuseSearch 4 (not b) rest)
-      from true b rest h k = ap (λ (x : Answer). noRow (x .number)) h
-      from false false rest h k = ap (λ (x : Answer). noRow (x .number)) h
-      from false true rest h k =
-          let z : _≡_ {A = ℕ} 0 1 = sym (ap (λ (x : Answer). x .number) h) ∙ ap (λ (x : Answer). x .number) k in
-          absurd (omega arith)
+  -- none was
+  pub says-none : b .found ≡ false → says 9 0 (b .row) ≡ nine (bestAs n b)
+  unfolding kept
+  says-none f =
+      ap (says 9 0) (ap (λ (x : Kept). x .row) (holds ∙ ap (kept p n) (best-none b n f)))
+      ∙ after-taken noRow noRow NoRow true [] refl
+      ∙ ap nine (sym (best-none b n f))

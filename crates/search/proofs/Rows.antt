@@ -1,6 +1,6 @@
 -- The rows over the candidates: which they are, and that they stand in dictionary order.
 -- Assumes nothing.
-use mathlib.Core.Path.{_≡_, refl, sym, ap, _∙_}
+use mathlib.Core.Path.{_≡_, refl, sym, ap}
 use mathlib.Core.Logic.{_↔_, _⊎_, inl, inr, ⊎-elim}
 use mathlib.Core.Bool.{Bool, true, false, _||_, false≢true}
 use mathlib.Core.List.{List, [], _∷_, _++_, map, List·Memᴰ, List·Memᴰ·head, List·Memᴰ·tail, List·Memᴰ·not-nil, List·Memᴰ·cases-cons, List·Memᴰ·append-cases, List·Memᴰ·eq-of-singleton, Memᴰ·append-left, Memᴰ·append-right, Memᴰ·cast, Memᴰ·map, Memᴰ·of-map}
@@ -8,11 +8,17 @@ use Prim.Native.Nat.{ℕ, zero, suc, _<_}
 use native.Mathlib.Omega.{arith}
 use native.Mathlib.Nat.{suc-inj}
 use lib.ListN.{length, getD}
-use lib.Seq.{ext-getD}
 use lib.Dec.{eqb}
 use borrow.Author.Tests.{eqb-true, eq-eqb}
-use Rattle.algebra.specs.Matrix.{tabulate, before, words}
-use Rattle.search.specs.Lightest.{upTo, member, consIf, among, ascending, rowsOver, Earlier, differs, agrees, Sorted, end, then}
+use Rattle.algebra.specs.Matrix.{tabulate, upTo, before, words}
+use Rattle.algebra.proofs.Symmetry.{same-bool}
+use Rattle.field.specs.Table.{keepIf}
+use Rattle.search.specs.Lightest.{member, among, ascending, rowsOver, Earlier, differs, agrees}
+
+-- each element of the list before those behind it
+pub data Sorted {A : Type 0} (Before : A → A → Type 0) : List A → Type 0 where
+  end : Sorted Before []
+  then : {x : A} {xs : List A} → ((y : A) → List·Memᴰ y xs → Before x y) → Sorted Before xs → Sorted Before (x ∷ xs)
 
 -- ---- dictionary order
 
@@ -126,6 +132,12 @@ sorted-words s (suc n) = sorted-before s (sorted-words s n)
 
 -- ---- tables
 
+-- a member stands somewhere
+pub mem-at : (l : List ℕ) (a : ℕ) → List·Memᴰ a l → (i : ℕ) × (i < length l) × (getD l i 0 ≡ a)
+mem-at [] a m = absurd (List·Memᴰ·not-nil m)
+mem-at (b ∷ l) a m =
+    ⊎-elim (λ (q : a ≡ b). (0, omega arith, sym q)) (λ k. let (i, h, e) = mem-at l a k in (suc i, omega arith, e)) (List·Memᴰ·cases-cons m)
+
 module _ {A : Type 0} where
   -- an entry is a member
   pub getD-mem : (l : List A) (i : ℕ) (d : A) → i < length l → List·Memᴰ (getD l i d) l
@@ -157,6 +169,11 @@ sorted-tabulate (suc n) f h =
 
 -- ---- the candidates, ascending
 
+-- a test that cannot pass fails
+pub not-passed : (b : Bool) → (b ≡ true → ⊥) → b ≡ false
+not-passed true h = absurd (h refl)
+not-passed false h = refl
+
 -- a disjunction of tests passes where one of them does
 or-right : (a b : Bool) → b ≡ true → (a || b) ≡ true
 or-right true b e = refl
@@ -186,16 +203,16 @@ pub member-mem : (x : ℕ) (l : List ℕ) → (member x l ≡ true) ↔ List·Me
 member-mem x l = (member-true x l, mem-true)
 
 -- what stands in a list with a conditional head
-consIf-mem : (t : Bool) (x y : ℕ) (rest : List ℕ) → t ≡ true → x ≡ y → List·Memᴰ x (consIf t y rest)
-consIf-mem t x y rest h e = rw h (List·Memᴰ·head e)
+keepIf-mem : (t : Bool) (x y : ℕ) (rest : List ℕ) → t ≡ true → x ≡ y → List·Memᴰ x (keepIf t y rest)
+keepIf-mem t x y rest h e = rw h (List·Memᴰ·head e)
 
-consIf-rest : (t : Bool) (x y : ℕ) (rest : List ℕ) → List·Memᴰ x rest → List·Memᴰ x (consIf t y rest)
-consIf-rest true x y rest m = List·Memᴰ·tail m
-consIf-rest false x y rest m = m
+keepIf-rest : (t : Bool) (x y : ℕ) (rest : List ℕ) → List·Memᴰ x rest → List·Memᴰ x (keepIf t y rest)
+keepIf-rest true x y rest m = List·Memᴰ·tail m
+keepIf-rest false x y rest m = m
 
-consIf-cases : (t : Bool) (x y : ℕ) (rest : List ℕ) → List·Memᴰ x (consIf t y rest) → ((t ≡ true) × (x ≡ y)) ⊎ List·Memᴰ x rest
-consIf-cases true x y rest m = ⊎-elim (λ e. inl (refl, e)) (λ k. inr k) (List·Memᴰ·cases-cons m)
-consIf-cases false x y rest m = inr m
+keepIf-cases : (t : Bool) (x y : ℕ) (rest : List ℕ) → List·Memᴰ x (keepIf t y rest) → ((t ≡ true) × (x ≡ y)) ⊎ List·Memᴰ x rest
+keepIf-cases true x y rest m = ⊎-elim (λ e. inl (refl, e)) (λ k. inr k) (List·Memᴰ·cases-cons m)
+keepIf-cases false x y rest m = inr m
 
 -- the numbers kept are among the numbers and among the candidates
 mem-among : (candidates xs : List ℕ) (x : ℕ) → List·Memᴰ x (among candidates xs) → List·Memᴰ x xs × List·Memᴰ x candidates
@@ -204,27 +221,27 @@ mem-among candidates [] x m = absurd (List·Memᴰ·not-nil m)
 mem-among candidates (y ∷ ys) x m =
     ⊎-elim (λ h. (List·Memᴰ·head (h .1), Memᴰ·cast (h .1) (member-true y candidates (h .0))))
     (λ k. let (i, j) = mem-among candidates ys x k in (List·Memᴰ·tail i, j))
-    (consIf-cases (member y candidates) x y (among candidates ys) m)
+    (keepIf-cases (member y candidates) x y (among candidates ys) m)
 
 -- and every such number is kept
 among-mem : {candidates xs : List ℕ} {x : ℕ} → List·Memᴰ x xs → List·Memᴰ x candidates → List·Memᴰ x (among candidates xs)
 unfolding among
 among-mem {candidates} {x = x} (List·Memᴰ·head {x = y} {xs = ys} e) k =
-    consIf-mem (member y candidates) x y (among candidates ys) (mem-true (Memᴰ·cast (sym e) k)) e
+    keepIf-mem (member y candidates) x y (among candidates ys) (mem-true (Memᴰ·cast (sym e) k)) e
 among-mem {candidates} {x = x} (List·Memᴰ·tail {x = y} {xs = ys} m) k =
-    consIf-rest (member y candidates) x y (among candidates ys) (among-mem m k)
+    keepIf-rest (member y candidates) x y (among candidates ys) (among-mem m k)
 
 -- a conditional head keeps an ascending list ascending
-sorted-consIf : (t : Bool) {x : ℕ} {rest : List ℕ} → ((y : ℕ) → List·Memᴰ y rest → x < y) → Sorted _<_ rest → Sorted _<_ (consIf t x rest)
-sorted-consIf true h s = then h s
-sorted-consIf false h s = s
+sorted-keepIf : (t : Bool) {x : ℕ} {rest : List ℕ} → ((y : ℕ) → List·Memᴰ y rest → x < y) → Sorted _<_ rest → Sorted _<_ (keepIf t x rest)
+sorted-keepIf true h s = then h s
+sorted-keepIf false h s = s
 
 -- the numbers kept ascend where the numbers do
 sorted-among : (candidates : List ℕ) {xs : List ℕ} → Sorted _<_ xs → Sorted _<_ (among candidates xs)
 unfolding among
 sorted-among candidates end = end
 sorted-among candidates (then {x = x} {xs = xs} p s) =
-    sorted-consIf (member x candidates) (λ y m. p y (mem-among candidates xs y m .0)) (sorted-among candidates s)
+    sorted-keepIf (member x candidates) (λ y m. p y (mem-among candidates xs y m .0)) (sorted-among candidates s)
 
 -- the candidates below the bound, ascending, do ascend strictly
 pub sorted-ascending : (bound : ℕ) (candidates : List ℕ) → Sorted _<_ (ascending bound candidates)
@@ -254,13 +271,8 @@ pub order-free : (bound : ℕ) (candidates candidates′ : List ℕ) → ((x : �
 unfolding ascending
 order-free bound candidates candidates′ h =
     same-among candidates candidates′
-    (λ x. equal _ _ (λ e. mem-true (h x .0 (member-true x candidates e))) (λ e. mem-true (h x .1 (member-true x candidates′ e))))
+    (λ x. same-bool _ _ (λ e. mem-true (h x .0 (member-true x candidates e))) (λ e. mem-true (h x .1 (member-true x candidates′ e))))
     (upTo bound)
-  where
-    equal : (a b : Bool) → (a ≡ true → b ≡ true) → (b ≡ true → a ≡ true) → a ≡ b
-    equal true b f g = sym (f refl)
-    equal false true f g = g refl
-    equal false false f g = refl
 
 -- the rows over the candidates are exactly those with n entries, each of them a candidate below the bound
 pub mem-rows : (bound : ℕ) (candidates : List ℕ) (n : ℕ) (r : List ℕ)

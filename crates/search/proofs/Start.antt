@@ -1,53 +1,46 @@
 -- The start of the walk: the letters are the candidates, ascending, and what the walk keeps at the end is the lightest row.
 -- Assumes nothing.
-use mathlib.Core.Path.{_≡_, refl, sym, ap, subst, _∙_}
-use mathlib.Core.Logic.{⊎-elim}
+use mathlib.Core.Path.{_≡_, refl, sym, ap, subst, subst⁻¹, _∙_}
 use mathlib.Core.Bool.{false, cond}
 use mathlib.Core.List.{List, [], List·Memᴰ, List·Memᴰ·not-nil}
-use Prim.Native.Nat.{ℕ, _-_, _≤_, _^_}
+use Prim.Native.Nat.{ℕ, _+_, _-_, _≤_, _<_, _^_}
 use native.Mathlib.Omega.{arith}
-use lib.ListN.{length, take, drop, replicate, length-append}
-use lib.Pow.{pow-mono}
-use lib.Seq.{take-at}
+use lib.ListN.{length, getD, take, drop, replicate, length-replicate, getD-replicate, replicate-append-replicate, List·getD-append}
+use lib.Pow.{pow-pos}
+use lib.Seq.{drop-at}
+use Rattle.algebra.specs.Matrix.{words}
 use Rattle.algebra.proofs.Words.{tabulate-cong}
 use Rattle.algebra.proofs.Symmetry.{same-bool}
 use Rattle.field.specs.Polynomial.{Modulus, degree, xorCount}
-use Rattle.field.proofs.Calls.{not-too-large}
-use Rattle.field.proofs.Degrees.{polynomial}
+use Rattle.field.proofs.Calls.{not-too-large, elements-most}
+use Rattle.matrix.specs.Steps.Conditions.{WordsInField}
 use Rattle.matrix.specs.Counts.{total, elementCount}
 use Rattle.search.specs.declared.Best.{Best as Kept}
-use Rattle.search.specs.Lightest.{nothing, found, keepAll, member, ascending}
-use Rattle.search.specs.Walk.{completions}
-use Rattle.search.specs.Answer.{someTooLarge, keyOf, lightestRow, bestAnswer}
-use Rattle.search.specs.Prices.{costOf, costTable, priced, Listed, leastCost}
-use Rattle.search.specs.Kept.{saysBest, bestAs, Keeps, SearchOrder, tried, Stands}
-use Rattle.search.proofs.Rows.{member-mem, mem-ascending}
-use Rattle.search.proofs.Costs.{member-fits, priced-ascending}
+use Rattle.search.specs.declared.letters.Letters.{Letters}
+use Rattle.search.specs.Lightest.{Best, nothing, found, keepAll, lightest, member, ascending}
+use Rattle.search.specs.Shape.{Shape, isGood}
+use Rattle.search.specs.Answer.{someTooLarge, keyOf, lightestRow}
+use Rattle.search.specs.Steps.Prefix.{kept, Cuts, bestAs, tried, AtPrefix}
+use Rattle.search.specs.Steps.Letters.{countIn, countTable, known, listed, leastCount}
+use Rattle.search.specs.Steps.Walk.{completions}
+use Rattle.search.proofs.Rows.{member-mem, mem-ascending, mem-rows, sorted-rows, getD-mem}
+use Rattle.search.proofs.Lightest.{row-sorted}
+use Rattle.search.proofs.LetterCounts.{member-fits, known-ascending, listed-take}
 use Rattle.search.proofs.Walk.{extend-all}
-use Rattle.search.proofs.Good.{tried-rows}
-use Rattle.search.proofs.Steps.{keeps-none}
+use Rattle.search.proofs.Prefixes.{Long}
 
 -- nothing kept yet
 abbrev none : Kept
-none = record { found = false; row = replicate 8 0; sum = 0 }
-
--- the field has at most 256 elements
-pub field-most : (p : ℕ) → Modulus p → 2 ^ degree p ≤ 256
-field-most p h = pow-mono {j = 8} (polynomial p h .most)
-
--- the first numbers of the array are the list
-listed-take : (l list : List ℕ) (count : ℕ) → Listed l list count → take count list ≡ l
-listed-take l list count h = ap (take count) (h .front) ∙ take-at l (replicate (256 - length l) 0) count (sym (h .long))
-
--- there are as many as it says
-pub listed-fits : (l list : List ℕ) (count : ℕ) → Listed l list count → count ≤ length list
-listed-fits l list count h = omega (arith, h .long, ap length (h .front), length-append l (replicate (256 - length l) 0))
+none = record { found = false; row = replicate 8 0; key = 0 }
 
 -- the places behind the row
-zeros : (n : ℕ) → SearchOrder n → drop n (replicate {A = ℕ} 8 0) ≡ replicate (8 - n) 0
-zeros n o = ⊎-elim (λ (e : n ≡ 4). rw e refl) (λ (e : n ≡ 8). rw e refl) o
+zeros : (n : ℕ) → n ≤ 8 → drop n (replicate {A = ℕ} 8 0) ≡ replicate (8 - n) 0
+zeros n most =
+    let all : n + (8 - n) ≡ 8 = omega arith in
+    ap (drop n) (sym (replicate-append-replicate n (8 - n) 0 ∙ ap (λ (m : ℕ). replicate m 0) all))
+    ∙ drop-at (replicate n 0) (replicate (8 - n) 0) n (length-replicate n 0)
 
-module _ (p n : ℕ) (h : Modulus p) (o : SearchOrder n) (cs : List ℕ) (fits : someTooLarge p cs ≡ false) where
+module _ (p n : ℕ) (h : Modulus p) (cs : List ℕ) (fits : someTooLarge p cs ≡ false) where
   -- the candidates, ascending
   abbrev letters : List ℕ
   letters = ascending (2 ^ degree p) cs
@@ -60,49 +53,76 @@ module _ (p n : ℕ) (h : Modulus p) (o : SearchOrder n) (cs : List ℕ) (fits :
       (λ e. member-mem a cs .1 (mem-ascending (2 ^ degree p) cs a .0 (member-mem a letters .0 e) .0))
 
   -- and the same table
-  table-same : costTable p cs ≡ costTable p letters
-  unfolding costTable costOf
+  table-same : countTable p cs ≡ countTable p letters
+  unfolding countTable countIn
   table-same = tabulate-cong 256 _ _ (λ a l. ap (λ t. cond t (xorCount p a) 255) (member-same a))
 
-  module _ (cost list : List ℕ) (count bound least : ℕ) (table : cost ≡ costTable p cs) (size : bound ≡ 2 ^ degree p) (listed : Listed (priced cost bound) list count)
-      (lowest : least ≡ leastCost cost (take count list)) where
-    letters-are : take count list ≡ letters
+  module _ (counts : List ℕ) (r : Letters) (bound least : ℕ) (table : counts ≡ countTable p cs) (size : bound ≡ 2 ^ degree p) (are : r ≡ listed (known counts bound))
+      (lowest : least ≡ leastCount counts (take (r .count) (r .list))) where
+    letters-are : take (r .count) (r .list) ≡ letters
     letters-are =
-        listed-take (priced cost bound) list count listed
-        ∙ ap (λ c. priced c bound) table ∙ ap (priced (costTable p cs)) size ∙ priced-ascending p h cs (2 ^ degree p) (field-most p h)
+        listed-take r (known counts bound) are
+        ∙ ap (λ c. known c bound) table ∙ ap (known (countTable p cs)) size ∙ known-ascending p h cs (2 ^ degree p) (elements-most p h)
 
     -- the walk starts
-    pub start-stands : Stands p n (take count list) cost least 0 (replicate 8 0) 0 none
-    unfolding elementCount total bestAs
-    start-stands =
+    pub start-at : (cuts : Cuts) → cuts .Order n → 0 < n → n ≤ 8 → AtPrefix cuts p n (take (r .count) (r .list)) counts least 0 (replicate 8 0) 0 none
+    unfolding elementCount total bestAs kept
+    start-at cuts order some most =
         record {
           brief =
               record {
                 modulus = h;
-                order = o;
+                order = order;
+                most = most;
                 below = λ a m. mem-ascending (2 ^ degree p) cs a .0 (subst (List·Memᴰ a) letters-are m) .1;
-                table = table ∙ table-same ∙ ap (costTable p) (sym letters-are);
+                table = table ∙ table-same ∙ ap (countTable p) (sym letters-are);
                 lowest = lowest;
               };
           reached =
               record {
+                eight = refl;
                 over = λ a m. absurd (List·Memᴰ·not-nil m);
-                rises = λ d g l. absurd (omega arith);
+                stands = λ d l. absurd (omega arith);
                 counted = refl;
-                rest = zeros n o;
+                rest = zeros n most;
               };
-          inside = ⊎-elim (λ (e : n ≡ 4). omega arith) (λ (e : n ≡ 8). omega arith) o;
-          keeps = keeps-none p n;
+          inside = some;
+          holds = refl;
         }
 
-    -- what is kept at the end
-    pub start-answer : (r : Kept) → Keeps p n r (keepAll (tried p n) (keyOf p n) (bestAs n none) (completions (take count list) (take 0 (replicate 8 0)) (n - 0)))
-        → saysBest r ≡ bestAnswer p n (lightestRow p n cs)
+    -- what is kept at the end, where the rows that are tried are enough
+    pub start-answer : (cuts : Cuts) → lightestRow (cuts .shape) p n cs ≡ lightest (tried cuts p n) (keyOf p n) (words letters n) → (b : Kept)
+        → b ≡ kept p n (keepAll (tried cuts p n) (keyOf p n) (bestAs n none) (completions (take (r .count) (r .list)) (take 0 (replicate 8 0)) (n - 0)))
+        → b ≡ kept p n (lightestRow (cuts .shape) p n cs)
     unfolding bestAs
-    start-answer r k =
-        k .says
-        ∙ ap (bestAnswer p n)
-        (ap (λ (m : ℕ). keepAll (tried p n) (keyOf p n) nothing (completions (take count list) [] m)) (omega arith)
-        ∙ ap (λ l. keepAll (tried p n) (keyOf p n) nothing (completions l [] n)) letters-are
-        ∙ extend-all (tried p n) (keyOf p n) letters n
-        ∙ sym (tried-rows p n h o cs))
+    start-answer cuts enough b k =
+        k
+        ∙ ap (kept p n)
+        (ap (λ (m : ℕ). keepAll (tried cuts p n) (keyOf p n) nothing (completions (take (r .count) (r .list)) [] m)) (omega arith)
+        ∙ ap (λ l. keepAll (tried cuts p n) (keyOf p n) nothing (completions l [] n)) letters-are
+        ∙ extend-all (tried cuts p n) (keyOf p n) letters n
+        ∙ sym enough)
+
+-- ---- the answer
+
+-- the row of a search has n entries, each of them an element
+module _ (shape : Shape) (p n : ℕ) (cs : List ℕ) where
+  row-is : (r : List ℕ) → lightestRow shape p n cs ≡ found r → (length r ≡ n) × ((a : ℕ) → List·Memᴰ a r → a < 2 ^ degree p)
+  unfolding lightestRow
+  row-is r e =
+      let (l, over) = mem-rows (2 ^ degree p) cs n r .0 (row-sorted (isGood shape p n) (keyOf p n) (sorted-rows (2 ^ degree p) cs n) r e .isRow) in
+      (l, λ a m. over a m .1)
+
+  pub row-long : Long n (lightestRow shape p n cs)
+  row-long r e = row-is r e .0
+
+  -- so is the array of the row kept
+  pub row-in-field : n ≤ 8 → (b : Kept) → b ≡ kept p n (lightestRow shape p n cs) → WordsInField p n (b .row)
+  unfolding WordsInField
+  row-in-field most b e j l = subst⁻¹ (λ (x : Kept). getD (x .row) j 0 < 2 ^ degree p) e (go (lightestRow shape p n cs) refl)
+    where
+      go : (best : Best) → lightestRow shape p n cs ≡ best → getD (kept p n best .row) j 0 < 2 ^ degree p
+      go nothing q = unfold kept in (rw (getD-replicate {A = ℕ} 8 j 0 0 (omega arith)) (pow-pos (degree p)))
+      go (found r) q =
+          let (long, below) = row-is r q in
+          unfold kept in (rw (List·getD-append r (replicate (8 - n) 0) 0 j (omega arith)) (below (getD r j 0) (getD-mem r j 0 (omega arith))))

@@ -1,19 +1,18 @@
 -- Laws for a recursive program that extends a prefix letter by letter: the fold over the completions of a prefix is, letter by
 -- letter, the fold over the completions of the longer prefix; and where no completion changes the row kept, it is that row.
 -- Assumes nothing.
-use mathlib.Core.Path.{_≡_, refl, sym, _∙_}
+use mathlib.Core.Path.{_≡_, refl, sym, ap, _∙_}
 use mathlib.Core.Logic.{_↔_, ⊎-elim}
-use mathlib.Core.Bool.{Bool, true, false, true≢false}
+use mathlib.Core.Bool.{Bool, true, false, cond, _&&_, true≢false}
 use mathlib.Core.List.{List, [], _∷_, _++_, map, append-nil, List·Memᴰ, List·Memᴰ·head, List·Memᴰ·tail, Memᴰ·cast, Memᴰ·map, Memᴰ·of-map}
 use Prim.Native.Nat.{ℕ, suc, _<_, _≤_}
-use native.Mathlib.Omega.{arith}
 use lib.ListN.{length, getD, take}
 use lib.Seq.{take-suc, append-snoc}
 use borrow.Author.Tests.{le-ltb}
 use Rattle.algebra.specs.Matrix.{before, words}
 use Rattle.search.specs.Lightest.{Best, nothing, found, lighter, keep, keepAll, lightest}
-use Rattle.search.specs.Walk.{completions, branches}
-use Rattle.search.proofs.Demand.{keep-cases}
+use Rattle.search.specs.Steps.Walk.{completions, branches}
+use Rattle.search.proofs.Lightest.{keep-cases}
 
 -- ---- the completions
 
@@ -124,37 +123,11 @@ module _ (good : List ℕ → Bool) (key : List ℕ → ℕ) where
 
 -- ---- congruence
 
-module _ (good good′ : List ℕ → Bool) (key key′ : List ℕ → ℕ) where
-  -- one row
-  keep-agrees : (best : Best) (r : List ℕ) → good r ≡ good′ r → key r ≡ key′ r → ((b : List ℕ) → best ≡ found b → key b ≡ key′ b)
-      → keep good key best r ≡ keep good′ key′ best r
-  unfolding keep lighter
-  keep-agrees nothing r e f h = rw e
-  keep-agrees (found b) r e f h = rw (e, f, h b refl)
-
-  -- the key agrees on the row kept after it
-  key-agrees : (best : Best) (r : List ℕ) → key r ≡ key′ r → ((b : List ℕ) → best ≡ found b → key b ≡ key′ b)
-      → (b : List ℕ) → keep good key best r ≡ found b → key b ≡ key′ b
-  key-agrees best r f h b e =
-      ⊎-elim (λ q. let same : r ≡ b = cc (q .0) in rw (← same) f) (λ q. h b (sym (q .0) ∙ e)) (keep-cases good key best r)
-
-  -- where goodness and key agree on the rows, and the key on the row kept before, the folds agree
-  pub agree : (best : Best) (rows : List (List ℕ)) → ((b : List ℕ) → best ≡ found b → key b ≡ key′ b)
-      → ((r : List ℕ) → List·Memᴰ r rows → good r ≡ good′ r) → ((r : List ℕ) → List·Memᴰ r rows → key r ≡ key′ r)
-      → keepAll good key best rows ≡ keepAll good′ key′ best rows
-  unfolding keepAll
-  agree best [] h g k = refl
-  agree best (r ∷ rows) h g k =
-      rw (← keep-agrees best r (g r (List·Memᴰ·head refl)) (k r (List·Memᴰ·head refl)) h)
-      (agree (keep good key best r) rows (key-agrees best r (k r (List·Memᴰ·head refl)) h) (λ s m. g s (List·Memᴰ·tail m)) (λ s m. k s (List·Memᴰ·tail m)))
-
-  -- the same from the start, where no row is kept
-  pub same-key-good : (rows : List (List ℕ)) → ((r : List ℕ) → List·Memᴰ r rows → good r ≡ good′ r) → ((r : List ℕ) → List·Memᴰ r rows → key r ≡ key′ r)
-      → lightest good key rows ≡ lightest good′ key′ rows
-  unfolding lightest
-  same-key-good rows = agree nothing rows (λ b e. absurd (let z : _≡_ {A = ℕ} 0 1 = cc in omega arith))
-
 -- where goodness agrees on the rows, the folds agree
 pub same-good : (good good′ : List ℕ → Bool) (key : List ℕ → ℕ) (best : Best) (rows : List (List ℕ)) → ((r : List ℕ) → List·Memᴰ r rows → good r ≡ good′ r)
     → keepAll good key best rows ≡ keepAll good′ key best rows
-same-good good good′ key best rows h = agree good good′ key key best rows (λ b e. refl) h (λ r m. refl)
+unfolding keepAll keep
+same-good good good′ key best [] h = refl
+same-good good good′ key best (r ∷ rows) h =
+    ap (λ t. keepAll good key (cond (t && lighter key best r) (found r) best) rows) (h r (List·Memᴰ·head refl))
+    ∙ same-good good good′ key (keep good′ key best r) rows (λ s m. h s (List·Memᴰ·tail m))

@@ -1,39 +1,41 @@
--- The search over the candidates of a brief, in the words of document 01: what a good row is, how heavy it is, and what the call
--- answers. Assumes nothing.
+-- The search over the candidates of a brief, in the words of document 01: how rows are compared, what the call answers, and what
+-- the struct of the code says. Assumes nothing.
 use mathlib.Core.Bool.{Bool, true, false, not, _&&_, _||_}
 use mathlib.Core.List.{List, [], _∷_, _++_}
 use Prim.Native.Nat.{ℕ, _-_, _^_}
-use lib.Dec.{eqb, leb, ltb}
+use lib.Dec.{eqb, ltb}
 use lib.ListN.{length, getD, replicate}
-use Rattle.algebra.specs.Matrix.{hadamard, isMds, isInvolution}
-use Rattle.field.specs.Polynomial.{degree, isIrreducible}
-use Rattle.field.specs.Outcome.{isOutside, isTooLarge}
-use Rattle.matrix.specs.Numbers.{numbers, elements}
+use Rattle.refusal.specs.Refusals.{numberOf, Fault, fault, Answer, answer, answerAfter}
+use Rattle.refusal.specs.declared.Outcome.{Outcome}
+use Rattle.refusal.specs.declared.Outcome.the-variants.{Value, Refused}
+use Rattle.field.specs.Polynomial.{degree}
+use Rattle.field.specs.Faults.{isTooLarge, polynomialFaults}
 use Rattle.matrix.specs.Counts.{elementCount}
+use Rattle.search.specs.declared.SearchResult.{SearchResult}
 use Rattle.search.specs.Lightest.{Best, nothing, found, member, lightest, rowsOver}
-
--- a good row: its Hadamard matrix is an involution and has branch number order + 1
-unfoldable pub isGood : ℕ → ℕ → List ℕ → Bool
-isGood p n row =
-    isInvolution (numbers p) (elements p) n (hadamard (numbers p) row) && isMds (numbers p) (elements p) n (hadamard (numbers p) row)
+use Rattle.search.specs.Shape.{Shape, isGood, hadamardShape}
 
 -- what is compared: the sum of the XOR counts of the row's elements
 unfoldable pub keyOf : ℕ → ℕ → List ℕ → ℕ
 keyOf p n row = elementCount p n (λ j. getD row j 0)
 
--- the lightest good row over the candidates, the first in dictionary order
-unfoldable pub lightestRow : ℕ → ℕ → List ℕ → Best
-lightestRow p n candidates = lightest (isGood p n) (keyOf p n) (rowsOver (2 ^ degree p) candidates n)
+-- what is printed: the sum of the XOR counts of the row's elements
+unfoldable pub sumOf : ℕ → ℕ → List ℕ → ℕ
+sumOf p n row = elementCount p n (λ j. getD row j 0)
+
+-- the lightest good row of a shape over the candidates, the first in dictionary order
+unfoldable pub lightestRow : Shape → ℕ → ℕ → List ℕ → Best
+lightestRow shape p n candidates = lightest (isGood shape p n) (keyOf p n) (rowsOver (2 ^ degree p) candidates n)
 
 -- ---- the call
 
 -- 5: the order of a search is 4 or 8
-unfoldable pub isWrongOrder : ℕ → Bool
-isWrongOrder n = not (eqb n 4 || eqb n 8)
+unfoldable pub isWrongSearchOrder : ℕ → Bool
+isWrongSearchOrder n = not (eqb n 4 || eqb n 8)
 
 -- 6: 1 to 255 candidates for order 4, 1 to 16 for order 8
-unfoldable pub isWrongCount : ℕ → ℕ → Bool
-isWrongCount n count = eqb count 0 || (eqb n 4 && ltb 255 count) || (eqb n 8 && ltb 16 count)
+unfoldable pub isWrongSearchCount : ℕ → ℕ → Bool
+isWrongSearchCount n count = eqb count 0 || (eqb n 4 && ltb 255 count) || (eqb n 8 && ltb 16 count)
 
 -- 7: some value is 2^m or more
 unfoldable pub someTooLarge : ℕ → List ℕ → Bool
@@ -49,29 +51,47 @@ someRepeated (a ∷ rest) = member a rest || someRepeated rest
 unfoldable pub someBad : List ℕ → Bool
 someBad candidates = member 0 candidates || someRepeated candidates
 
--- the number that is returned, 0 where a row is found; the sum of its element counts; the row, filled up to eight entries with 0
-pub record SearchAnswer : Type 0 where
-  pub number : ℕ
+-- 9: there is no row
+abbrev pub isNone : Best → Bool
+isNone nothing = true
+isNone (found row) = false
+
+-- the faults of a search whose lightest row this is, in the order in which they are looked at
+unfoldable pub searchFaults : ℕ → ℕ → List ℕ → Best → List Fault
+searchFaults p n candidates best =
+    polynomialFaults p
+    ++ fault 5 (isWrongSearchOrder n)
+    ∷ fault 6 (isWrongSearchCount n (length candidates))
+    ∷ fault 7 (someTooLarge p candidates)
+    ∷ fault 8 (someBad candidates)
+    ∷ fault 9 (isNone best)
+    ∷ []
+
+-- what a search finds: the sum of the row's element counts, and the row, filled up to eight entries with 0
+pub record RowFound : Type 0 where
   pub sum : ℕ
   pub row : List ℕ
 
-abbrev pub noRow : ℕ → SearchAnswer
-noRow number = record { number = number; sum = 0; row = replicate 8 0 }
+abbrev pub noRow : RowFound
+noRow = record { sum = 0; row = replicate 8 0 }
 
-abbrev pub refuseSearch : ℕ → Bool → SearchAnswer → SearchAnswer
-refuseSearch number true rest = noRow number
-refuseSearch number false rest = rest
+abbrev pub rowFound : ℕ → ℕ → Best → RowFound
+rowFound p n nothing = noRow
+rowFound p n (found row) = record { sum = sumOf p n row; row = row ++ replicate (8 - n) 0 }
 
--- the row found, or 9
-abbrev pub bestAnswer : ℕ → ℕ → Best → SearchAnswer
-bestAnswer p n nothing = noRow 9
-bestAnswer p n (found row) = record { number = 0; sum = keyOf p n row; row = row ++ replicate (8 - n) 0 }
-
--- what a search of polynomial p and order n over the candidates answers: the first of 3 to 8 that applies, else the lightest row or 9
-unfoldable pub searchAnswer : ℕ → ℕ → List ℕ → SearchAnswer
+-- what a search of polynomial p and order n over the candidates answers: the first fault, or the lightest row
+unfoldable pub searchAnswer : ℕ → ℕ → List ℕ → Answer RowFound
 searchAnswer p n candidates =
-    refuseSearch 3 (isOutside p)
-    (refuseSearch 4 (not (isIrreducible p))
-    (refuseSearch 5 (isWrongOrder n)
-    (refuseSearch 6 (isWrongCount n (length candidates))
-    (refuseSearch 7 (someTooLarge p candidates) (refuseSearch 8 (someBad candidates) (bestAnswer p n (lightestRow p n candidates)))))))
+    let best = lightestRow hadamardShape p n candidates in
+    answerAfter noRow (searchFaults p n candidates best) (rowFound p n best)
+
+-- ---- what the struct says
+
+-- what an outcome and a row say
+abbrev pub saysOutcome : Outcome → List ℕ → Answer RowFound
+saysOutcome (Value v) row = answer 0 (record { sum = v; row = row })
+saysOutcome (Refused r) row = answer (numberOf r) (record { sum = 0; row = row })
+
+-- the answer of a search
+abbrev pub saysSearch : SearchResult → Answer RowFound
+saysSearch s = saysOutcome (s .outcome) (s .row)

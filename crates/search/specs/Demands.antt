@@ -10,14 +10,6 @@ use Rattle.matrix.specs.Numbers.{numbers, elements}
 use Rattle.matrix.specs.Counts.{rowCount}
 use Rattle.search.specs.Lightest.{Earlier}
 
--- a row over the brief's elements with both properties: n entries, each of them a candidate; its matrix is an involution with
--- branch number order plus one
-pub record Both (p n : ℕ) (candidates row : List ℕ) : Type 0 where
-  pub entries : length row ≡ n
-  pub over : (a : ℕ) → List·Memᴰ a row → List·Memᴰ a candidates
-  pub involution : isInvolution (numbers p) (elements p) n (hadamard (numbers p) row) ≡ true
-  pub branch : branchNumber (numbers p) (elements p) n (hadamard (numbers p) row) ≡ suc n
-
 -- the XOR count of a row
 abbrev pub countOfRow : ℕ → ℕ → List ℕ → ℕ
 countOfRow p n row = rowCount p n (λ j. getD row j 0)
@@ -26,7 +18,19 @@ countOfRow p n row = rowCount p n (λ j. getD row j 0)
 abbrev pub Before : ℕ → ℕ → List ℕ → List ℕ → Type 0
 Before p n r s = (countOfRow p n r < countOfRow p n s) ⊎ ((countOfRow p n r ≡ countOfRow p n s) × Earlier r s)
 
+-- of the rows that have something: one that is before every other
+pub record FirstOf (Has : List ℕ → Type 0) (p n : ℕ) (row : List ℕ) : Type 0 where
+  pub has : Has row
+  pub first : (s : List ℕ) → Has s → s ≢ row → Before p n row s
+
+-- a row over the brief's elements with both properties: n entries, each of them a candidate; its Hadamard matrix is an involution
+-- with branch number order plus one
+pub record Both (p n : ℕ) (candidates row : List ℕ) : Type 0 where
+  pub entries : length row ≡ n
+  pub over : (a : ℕ) → List·Memᴰ a row → List·Memᴰ a candidates
+  pub involution : isInvolution (numbers p) (elements p) n (hadamard (numbers p) row) ≡ true
+  pub branch : branchNumber (numbers p) (elements p) n (hadamard (numbers p) row) ≡ suc n
+
 -- the row demanded: a row with both properties that is before every other row with both
-pub record Demanded (p n : ℕ) (candidates row : List ℕ) : Type 0 where
-  pub both : Both p n candidates row
-  pub first : (s : List ℕ) → Both p n candidates s → s ≢ row → Before p n row s
+abbrev pub Demanded : ℕ → ℕ → List ℕ → List ℕ → Type 0
+Demanded p n candidates row = FirstOf (Both p n candidates) p n row

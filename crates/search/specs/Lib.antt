@@ -1,8 +1,6 @@
--- The definitions that the contracts of `search` cite. To be believed: Lightest, Answer, and the first part of Kept.
+-- The definitions that the contracts of `search` cite. To be believed: all but Steps.
 pub mod Lightest
+pub mod Shape
 pub mod Answer
 pub mod Demands
-pub mod Walk
-pub mod Seven
-pub mod Prices
-pub mod Kept
+pub mod Steps

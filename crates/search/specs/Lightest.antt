@@ -2,33 +2,24 @@
 -- dictionary order among equals. When a row is good and how heavy it is (its key) are parameters.
 -- Assumes nothing.
 use mathlib.Core.Path.{_≡_}
-use mathlib.Core.Logic.{_≢_, _⊎_}
 use mathlib.Core.Bool.{Bool, true, false, cond, _&&_, _||_}
-use mathlib.Core.List.{List, [], _∷_, List·Memᴰ}
+use mathlib.Core.List.{List, [], _∷_}
 use Prim.Native.Nat.{ℕ, _<_}
 use lib.Dec.{ltb, eqb}
-use Rattle.algebra.specs.Matrix.{tabulate, words}
+use Rattle.algebra.specs.Matrix.{upTo, words}
+use Rattle.field.specs.Table.{keepIf}
 
 -- ---- the rows
-
--- 0, 1, .. n - 1
-unfoldable pub upTo : ℕ → List ℕ
-upTo n = tabulate n (λ i. i)
 
 -- whether x is among the numbers
 unfoldable pub member : ℕ → List ℕ → Bool
 member x [] = false
 member x (y ∷ ys) = eqb x y || member x ys
 
--- x before the rest, or the rest alone where the test fails
-abbrev pub consIf : Bool → ℕ → List ℕ → List ℕ
-consIf true x rest = x ∷ rest
-consIf false x rest = rest
-
 -- those of the numbers that are among the candidates
 unfoldable pub among : List ℕ → List ℕ → List ℕ
 among candidates [] = []
-among candidates (x ∷ xs) = consIf (member x candidates) x (among candidates xs)
+among candidates (x ∷ xs) = keepIf (member x candidates) x (among candidates xs)
 
 -- the candidates below the bound, ascending, each of them one time
 unfoldable pub ascending : ℕ → List ℕ → List ℕ
@@ -42,11 +33,6 @@ rowsOver bound candidates n = words (ascending bound candidates) n
 pub data Earlier : List ℕ → List ℕ → Type 0 where
   differs : {a b : ℕ} {r s : List ℕ} → a < b → Earlier (a ∷ r) (b ∷ s)
   agrees : {a b : ℕ} {r s : List ℕ} → a ≡ b → Earlier r s → Earlier (a ∷ r) (b ∷ s)
-
--- each element of the list before those behind it
-pub data Sorted {A : Type 0} (Before : A → A → Type 0) : List A → Type 0 where
-  end : Sorted Before []
-  then : {x : A} {xs : List A} → ((y : A) → List·Memᴰ y xs → Before x y) → Sorted Before xs → Sorted Before (x ∷ xs)
 
 -- ---- the lightest row
 
@@ -72,10 +58,3 @@ keepAll good key best (r ∷ rs) = keepAll good key (keep good key best r) rs
 -- the lightest of the good rows, the first of them where several are equally light
 unfoldable pub lightest : (List ℕ → Bool) → (List ℕ → ℕ) → List (List ℕ) → Best
 lightest good key rows = keepAll good key nothing rows
-
--- what is demanded of the row r: it is one of the rows, it is good, and every other good row has a larger key, or the same key
--- and a later place in dictionary order
-pub record Demanded (good : List ℕ → Bool) (key : List ℕ → ℕ) (rows : List (List ℕ)) (r : List ℕ) : Type 0 where
-  pub isRow : List·Memᴰ r rows
-  pub isGood : good r ≡ true
-  pub isFirst : (s : List ℕ) → List·Memᴰ s rows → good s ≡ true → s ≢ r → (key r < key s) ⊎ ((key r ≡ key s) × Earlier r s)

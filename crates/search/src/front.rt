@@ -3,12 +3,12 @@
 ghost use mathlib.Core.Path.{_≡_};
 ghost use Rattle.field.specs.Polynomial.{Modulus};
 ghost use Rattle.search.specs.Lightest.{member};
-ghost use Rattle.search.specs.Answer.{isWrongOrder, isWrongCount, someTooLarge, someRepeated, someBad};
-use crate::prices;
+ghost use Rattle.search.specs.Answer.{isWrongSearchOrder, isWrongSearchCount, someTooLarge, someRepeated, someBad};
+use crate::letters;
 
 // Whether the order is neither 4 nor 8.
 pub fn is_wrong_order(n: u32) -> bool
-    ensures { λ r. ⌜ r ≡ isWrongOrder n ⌝ }
+    ensures { λ r. ⌜ r ≡ isWrongSearchOrder n ⌝ }
 {
     if n == 4 {
         return false;
@@ -18,7 +18,7 @@ pub fn is_wrong_order(n: u32) -> bool
 
 // Whether the count of candidates is not allowed: 1 to 255 at order 4, 1 to 16 at order 8.
 pub fn is_wrong_count(n: u32, count: usize) -> bool
-    ensures { λ r. ⌜ r ≡ isWrongCount n count ⌝ }
+    ensures { λ r. ⌜ r ≡ isWrongSearchCount n count ⌝ }
 {
     if count == 0 {
         return true;
@@ -37,7 +37,7 @@ pub fn some_too_large(p: u16, values: &[u32]) -> bool
     requires { ⌜ Modulus p ⌝ }
     ensures { λ r. ⌜ r ≡ someTooLarge p (now (values .entry)) ⌝ }
 {
-    let end = prices::size(p) as u32;
+    let end = letters::size(p) as u32;
     let mut i = 0;
     while i < values.len() {
         if end <= values[i] {

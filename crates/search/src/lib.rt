@@ -3,44 +3,50 @@
 
 ghost use mathlib.Core.Path.{_≡_};
 ghost use mathlib.Core.Bool.{false};
+ghost use Prim.Native.Nat.{_≤_};
+ghost use mathlib.Core.List.{[], _∷_};
+ghost use Rattle.refusal.specs.Refusals.{numberOf, fault, answer, answerAfter};
 ghost use Rattle.field.specs.Polynomial.{Modulus};
-ghost use Rattle.search.specs.Answer.{someTooLarge, lightestRow, noRow, bestAnswer, searchAnswer};
-ghost use Rattle.search.specs.Kept.{SearchOrder, answerOver, saysBest, saysSearch};
-ghost use Rattle.field.specs.Outcome.{numberOf};
+ghost use Rattle.matrix.specs.Steps.Conditions.{WordsInField};
+ghost use Rattle.search.specs.Shape.{hadamardShape};
+ghost use Rattle.search.specs.Answer.{someTooLarge, lightestRow, isNone, noRow, rowFound, searchAnswer, saysSearch};
+ghost use Rattle.search.specs.Steps.Prefix.{kept, bestAs};
+ghost use Rattle.search.specs.Steps.Hadamard.{SearchOrder};
 
 mod front;
+mod hadamard;
+mod letters;
 mod prefix;
-mod prices;
 
-// The row kept: its entries with zeros behind them, and the sum of their counts; all zeros where none is found.
-pub struct Best {
-    pub found: bool,
-    pub row: [u8; 8],
-    pub sum: u32,
+// The row kept: its entries with zeros behind them, and its key; all zeros where none is found.
+struct Best {
+    found: bool,
+    row: [u8; 8],
+    key: u32,
 }
 
 // What a search answers: the sum of the row's counts or the refusal, and the row, all zeros where the search is refused.
 pub struct SearchResult {
-    pub outcome: field::Outcome,
+    pub outcome: refusal::Outcome,
     pub row: [u8; 8],
 }
 
 // The lightest row over the candidates.
-pub fn lightest_row(p: u16, n: usize, candidates: &[u32]) -> Best
+fn lightest_row(p: u16, n: usize, candidates: &[u32]) -> Best
     requires { ⌜ Modulus p × SearchOrder n × (someTooLarge p (now candidates) ≡ false) ⌝ }
-    ensures { λ r. ⌜ saysBest r ≡ bestAnswer p n (lightestRow p n (now (candidates .entry))) ⌝ }
+    ensures { λ r. ⌜ r ≡ kept p n (lightestRow hadamardShape p n (now (candidates .entry))) ⌝ }
 {
-    let cost = prices::cost_table(p, candidates);
-    let letters = prices::letters_of(&cost, prices::size(p));
-    let list = letters.list;
-    let count = letters.count;
-    let least = prices::least_cost(&cost, &list[..count]) as u32;
+    let counts = letters::count_table(p, candidates);
+    let known = letters::letters_of(&counts, letters::size(p));
+    let list = known.list;
+    let count = known.count;
+    let least = letters::least_count(&counts, &list[..count]) as u32;
     let none = Best {
         found: false,
         row: [0; 8],
-        sum: 0,
+        key: 0,
     };
-    prefix::extend(p, n, &list[..count], &cost, least, 0, [0; 8], 0, none)
+    prefix::extend(p, n, &list[..count], &counts, least, 0, [0; 8], 0, none)
 }
 
 // The answer of a search of this polynomial and order over the candidates, or the refusal.
@@ -48,17 +54,17 @@ pub fn search(p: u32, n: u32, candidates: &[u32]) -> SearchResult
     ensures { λ r. ⌜ saysSearch r ≡ searchAnswer p n (now (candidates .entry)) ⌝ }
 {
     match field::checked_degree(p) {
-        field::Outcome::Refused(r) => refused(r),
-        field::Outcome::Value(_) => search_over(p as u16, n, candidates),
+        refusal::Outcome::Refused(r) => refused(r),
+        refusal::Outcome::Value(_) => search_over(p as u16, n, candidates),
     }
 }
 
 // A refusal, without a row.
-fn refused(reason: field::Refusal) -> SearchResult
-    ensures { λ r. ⌜ saysSearch r ≡ noRow (numberOf reason) ⌝ }
+fn refused(reason: refusal::Refusal) -> SearchResult
+    ensures { λ r. ⌜ saysSearch r ≡ answer (numberOf reason) noRow ⌝ }
 {
     SearchResult {
-        outcome: field::Outcome::Refused(reason),
+        outcome: refusal::Outcome::Refused(reason),
         row: [0; 8],
     }
 }
@@ -66,37 +72,38 @@ fn refused(reason: field::Refusal) -> SearchResult
 // The same where the polynomial passes.
 fn search_over(p: u16, n: u32, candidates: &[u32]) -> SearchResult
     requires { ⌜ Modulus p ⌝ }
-    ensures { λ r. ⌜ saysSearch r ≡ answerOver p n (now (candidates .entry)) ⌝ }
+    ensures { λ r. ⌜ saysSearch r ≡ searchAnswer p n (now (candidates .entry)) ⌝ }
 {
     if front::is_wrong_order(n) {
-        return refused(field::Refusal::OrderRange);
+        return refused(refusal::Refusal::OrderRange);
     }
     if front::is_wrong_count(n, candidates.len()) {
-        return refused(field::Refusal::CountRange);
+        return refused(refusal::Refusal::CountRange);
     }
     if front::some_too_large(p, candidates) {
-        return refused(field::Refusal::ValueRange);
+        return refused(refusal::Refusal::ValueRange);
     }
     if front::some_bad(candidates) {
-        return refused(field::Refusal::BadCandidate);
+        return refused(refusal::Refusal::BadCandidate);
     }
-    found(lightest_row(p, n as usize, candidates))
+    found(p, n as usize, lightest_row(p, n as usize, candidates))
 }
 
-// The row kept as an answer.
-fn found(best: Best) -> SearchResult
-    requires { ⌜ (best .found ≡ false → best .sum ≡ 0) ⌝ }
-    ensures { λ r. ⌜ saysSearch r ≡ saysBest best ⌝ }
+// The row kept as an answer; the sum of its counts is taken here.
+fn found(p: u16, n: usize, best: Best) -> SearchResult
+    requires { ⌜ Modulus p × (n ≤ 8) × WordsInField p n (best .row) × (best ≡ kept p n (bestAs n best)) ⌝ }
+    ensures { λ r. ⌜ saysSearch r ≡ answerAfter noRow (fault 9 (isNone (bestAs n best)) ∷ []) (rowFound p n (bestAs n best)) ⌝ }
 {
     let row = best.row;
     if best.found {
+        let sum = matrix::count::element_count(p, row, n);
         SearchResult {
-            outcome: field::Outcome::Value(best.sum),
+            outcome: refusal::Outcome::Value(sum),
             row,
         }
     } else {
         SearchResult {
-            outcome: field::Outcome::Refused(field::Refusal::NoRow),
+            outcome: refusal::Outcome::Refused(refusal::Refusal::NoRow),
             row,
         }
     }

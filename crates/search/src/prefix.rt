@@ -3,57 +3,34 @@
 ghost use mathlib.Core.Path.{_≡_};
 ghost use mathlib.Core.Bool.{cond};
 ghost use mathlib.Core.List.{_++_, _∷_, []};
-ghost use Prim.Native.Nat.{_+_, _-_, _<_};
+ghost use Prim.Native.Nat.{_+_, _-_};
 ghost use lib.ListN.{take};
 ghost use Rattle.search.specs.Lightest.{found, keepAll};
-ghost use Rattle.search.specs.Walk.{completions};
-ghost use Rattle.search.specs.Answer.{isGood, keyOf};
-ghost use Rattle.search.specs.Kept.{Keeps, bestAs, isHeavy, tried, goesOn, Whole, Stands, NextLetter};
+ghost use Rattle.search.specs.Shape.{hadamardShape, isGood};
+ghost use Rattle.search.specs.Answer.{keyOf};
+ghost use Rattle.search.specs.Steps.Prefix.{kept, bestAs, isHeavy, tried, Whole, AtPrefix, NextLetter};
+ghost use Rattle.search.specs.Steps.Walk.{completions};
+ghost use Rattle.search.specs.Steps.Hadamard.{hadamardCuts};
 use crate::Best;
+use crate::hadamard;
 
-// At order 4 and 8 the entry at place d is larger than that at place BEFORE[d], from d = 1 on.
-const BEFORE: [usize; 8] = [0, 0, 1, 2, 2, 4, 4, 4];
-
-// Whether a may stand behind the first entries: it is larger than the one that is to be smaller, and none of them.
-fn goes_on(row: [u8; 8], depth: usize, a: u8) -> bool
-    requires { ⌜ depth < 8 ⌝ }
-    ensures { λ r. ⌜ r ≡ goesOn row depth a ⌝ }
+// Whether a row of this key or a larger one is not lighter than the row kept.
+fn is_heavy(best: Best, key: u32) -> bool
+    ensures { λ r. ⌜ r ≡ isHeavy best key ⌝ }
 {
-    if depth == 0 {
-        return true;
-    }
-    let low = BEFORE[depth];
-    if a <= row[low] {
-        return false;
-    }
-    let mut i = 0;
-    while i < depth {
-        if row[i] == a {
-            return false;
-        }
-        i += 1;
-    }
-    true
-}
-
-// Whether a row of this sum is not lighter than the row kept.
-fn is_heavy(best: Best, sum: u32) -> bool
-    ensures { λ r. ⌜ r ≡ isHeavy best sum ⌝ }
-{
-    if best.found { best.sum <= sum } else { false }
+    if best.found { best.key <= key } else { false }
 }
 
 // The row, where it is good; else the row kept before.
-fn finish(p: u16, n: usize, row: [u8; 8], sum: u32, best: Best) -> Best
-    requires { ⌜ Whole p n row sum × Keeps p n best (bestAs n best) ⌝ }
-    ensures { λ r. ⌜ Keeps p n r (cond (isGood p n (take n row)) (found (take n row)) (bestAs n best)) ⌝ }
+fn finish(p: u16, n: usize, row: [u8; 8], key: u32, best: Best) -> Best
+    requires { ⌜ Whole hadamardCuts p n row key × (best ≡ kept p n (bestAs n best)) ⌝ }
+    ensures { λ r. ⌜ r ≡ kept p n (cond (isGood hadamardShape p n (take n row)) (found (take n row)) (bestAs n best)) ⌝ }
 {
-    let m = matrix::multiply::hadamard_matrix(row, n);
-    if matrix::block::regular_up_to(p, m, n, 2, n / 2) {
+    if hadamard::is_good(p, n, row) {
         Best {
             found: true,
             row,
-            sum,
+            key,
         }
     } else {
         best
@@ -65,7 +42,7 @@ fn branch(
     p: u16,
     n: usize,
     letters: &[u8],
-    cost: &[u8; 256],
+    counts: &[u8; 256],
     least: u32,
     depth: usize,
     prefix: [u8; 8],
@@ -73,14 +50,14 @@ fn branch(
     a: u8,
     best: Best,
 ) -> Best
-    requires { ⌜ Stands p n (now letters) (now cost) least depth prefix count best × NextLetter p n (now letters) depth prefix a ⌝ }
-    ensures { λ r. ⌜ Keeps p n r (keepAll (tried p n) (keyOf p n) (bestAs n best) (completions (now (letters .entry)) (take depth prefix ++ a ∷ []) (n - (depth + 1)))) ⌝ }
+    requires { ⌜ AtPrefix hadamardCuts p n (now letters) (now counts) least depth prefix count best × NextLetter hadamardCuts n (now letters) depth prefix a ⌝ }
+    ensures { λ r. ⌜ r ≡ kept p n (keepAll (tried hadamardCuts p n) (keyOf p n) (bestAs n best) (completions (now (letters .entry)) (take depth prefix ++ a ∷ []) (n - (depth + 1)))) ⌝ }
 {
-    if !goes_on(prefix, depth, a) {
+    if !hadamard::may_stand(prefix, depth, a) {
         return best;
     }
     let next = depth + 1;
-    let total = count + cost[a as usize] as u32;
+    let total = count + counts[a as usize] as u32;
     if is_heavy(best, total + least * (n - next) as u32) {
         return best;
     }
@@ -89,39 +66,39 @@ fn branch(
     if next == n {
         finish(p, n, row, total, best)
     } else {
-        extend(p, n, letters, cost, least, next, row, total, best)
+        extend(p, n, letters, counts, least, next, row, total, best)
     }
 }
 
-// The row kept after all rows that begin with the prefix. The last entry is the one that makes the exclusive or 1.
+// The row kept after all rows that begin with the prefix. At the last place one letter alone may stand.
 pub fn extend(
     p: u16,
     n: usize,
     letters: &[u8],
-    cost: &[u8; 256],
+    counts: &[u8; 256],
     least: u32,
     depth: usize,
     prefix: [u8; 8],
     count: u32,
     best: Best,
 ) -> Best
-    requires { ⌜ Stands p n (now letters) (now cost) least depth prefix count best ⌝ }
-    ensures { λ r. ⌜ Keeps p n r (keepAll (tried p n) (keyOf p n) (bestAs n best) (completions (now (letters .entry)) (take depth prefix) (n - depth))) ⌝ }
+    requires { ⌜ AtPrefix hadamardCuts p n (now letters) (now counts) least depth prefix count best ⌝ }
+    ensures { λ r. ⌜ r ≡ kept p n (keepAll (tried hadamardCuts p n) (keyOf p n) (bestAs n best) (completions (now (letters .entry)) (take depth prefix) (n - depth))) ⌝ }
 {
     if depth + 1 == n {
-        let a = matrix::multiply::xor_of(prefix, depth) ^ 1;
-        if cost[a as usize] == 255 {
+        let a = hadamard::last_letter(prefix, depth);
+        if counts[a as usize] == 255 {
             return best;
         }
-        return branch(p, n, letters, cost, least, depth, prefix, count, a, best);
+        return branch(p, n, letters, counts, least, depth, prefix, count, a, best);
     }
-    let mut kept = best;
+    let mut held = best;
     let mut i = 0;
     while i < letters.len() {
         let a = letters[i];
-        let next = branch(p, n, letters, cost, least, depth, prefix, count, a, kept);
-        kept = next;
+        let next = branch(p, n, letters, counts, least, depth, prefix, count, a, held);
+        held = next;
         i += 1;
     }
-    kept
+    held
 }

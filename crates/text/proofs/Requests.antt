@@ -3,7 +3,7 @@
 -- requests with the same text are the same numbers. `first-line`: the values stand sixteen to a line.
 -- Assumes nothing.
 use mathlib.Core.Path.{_≡_, refl, sym, ap, ap₂, _∙_}
-use mathlib.Core.Bool.{Bool, true, false, cond}
+use mathlib.Core.Bool.{Bool, true, false, cond, not}
 use mathlib.Core.Logic.{_↔_}
 use mathlib.Core.List.{List, [], _∷_, _++_, append-assoc, append-nil}
 use Prim.Native.Nat.{ℕ, zero, suc, _+_, _*_, _/_, _%_, _≤_, _<_}
@@ -12,8 +12,9 @@ use native.Mathlib.Decide.{ℕ-discrete}
 use native.Mathlib.Omega.{arith}
 use lib.ListN.{length, getD, take, drop, length-append}
 use lib.Seq.{drop-at}
+use Rattle.refusal.specs.Refusals.{firstNumber, Answer, answer, unlessRefused, answerAfter}
 use Rattle.text.specs.Text.{column, columns, lineText, lineEnd, valueText, requestText, SixDigits, InForm}
-use Rattle.text.specs.Reading.{numberAt, valueAt, valuesFrom, kindOf, polynomialOf, orderOf, countOf, valuesOf, rewritten, inForm, headerOf}
+use Rattle.text.specs.Reading.{numberAt, valueAt, valuesFrom, kindOf, polynomialOf, orderOf, countOf, valuesOf, lineOne, rewritten, inForm, saysHeader, headerAnswer}
 use Rattle.text.specs.declared.Header.the-variants.{Refused, Read}
 use Rattle.text.proofs.Numbers.{number-six, value-six, number-back}
 use Rattle.text.proofs.Lengths.{length-column, length-line, length-request, length-valuesFrom, end-full, end-last, end-none}
@@ -123,28 +124,28 @@ in-form-exactly s = (decided, true-of)
 pub header-written : (kind polynomial order : ℕ) (values : List ℕ)
     → SixDigits (kind ∷ polynomial ∷ order ∷ length values ∷ values)
     → length (requestText kind polynomial order values) ≤ 4096
-    → headerOf (requestText kind polynomial order values) ≡ Read kind polynomial order (length values)
-unfolding headerOf
+    → headerAnswer (requestText kind polynomial order values) ≡ answer 0 (kind ∷ polynomial ∷ order ∷ length values ∷ [])
+unfolding headerAnswer answerAfter firstNumber lineOne
 header-written k p o vs six short =
     let (form, r) = written-read k p o vs six short in
     rw (form, r .kind-is, r .polynomial-is, r .order-is, r .count-is)
 
-pub header-read : (text : List ℕ) (kind polynomial order count : ℕ) → headerOf text ≡ Read kind polynomial order count
+pub header-read : (text : List ℕ) (kind polynomial order count : ℕ) → saysHeader (Read kind polynomial order count) ≡ headerAnswer text
     → (inForm text ≡ true) × (kindOf text ≡ kind) × (polynomialOf text ≡ polynomial) × (orderOf text ≡ order) × (countOf text ≡ count)
-unfolding headerOf
+unfolding headerAnswer answerAfter firstNumber lineOne
 header-read s k p o n = go (inForm s)
   where
-    go : (t : Bool) → cond t (Read (kindOf s) (polynomialOf s) (orderOf s) (countOf s)) Refused ≡ Read k p o n
+    go : (t : Bool) → answer 0 (k ∷ p ∷ o ∷ n ∷ []) ≡ unlessRefused [] (cond (not t) 1 0) (kindOf s ∷ polynomialOf s ∷ orderOf s ∷ countOf s ∷ [])
         → (t ≡ true) × (kindOf s ≡ k) × (polynomialOf s ≡ p) × (orderOf s ≡ o) × (countOf s ≡ n)
-    go true e = (refl, (cc), (cc), (cc), (cc))
-    go false e = ((cc), (cc), (cc), (cc), (cc))
+    go true e = let l = ap (λ (a : Answer (List ℕ)). a .value) e in (refl, (cc), (cc), (cc), (cc))
+    go false e = let z : _≡_ {A = ℕ} 0 1 = ap (λ (a : Answer (List ℕ)). a .number) e in let y : ⊥ = omega arith in absurd y
 
-pub header-refused : (text : List ℕ) → headerOf text ≡ Refused → inForm text ≡ false
-unfolding headerOf
+pub header-refused : (text : List ℕ) → saysHeader Refused ≡ headerAnswer text → inForm text ≡ false
+unfolding headerAnswer answerAfter firstNumber
 header-refused s = go (inForm s)
   where
-    go : (t : Bool) → cond t (Read (kindOf s) (polynomialOf s) (orderOf s) (countOf s)) Refused ≡ Refused → t ≡ false
-    go true e = cc
+    go : (t : Bool) → answer 1 [] ≡ unlessRefused [] (cond (not t) 1 0) (lineOne s) → t ≡ false
+    go true e = let z : _≡_ {A = ℕ} 1 0 = ap (λ (a : Answer (List ℕ)). a .number) e in let y : ⊥ = omega arith in absurd y
     go false e = refl
 
 -- count 0 is line one alone; the longest text has 671 values and 4,093 bytes

@@ -1,3 +1,4 @@
+-- The definitions that the contracts of `text` cite. To be believed: all.
 pub mod Text
 pub mod Reading
 pub mod Writing

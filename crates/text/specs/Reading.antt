@@ -1,11 +1,12 @@
 -- Numbers taken from their columns, and the test whether a text is in form. A number is read without a look at its spaces;
 -- the text is in form if the request text of the numbers read is the text itself (`in-form-exactly` of proofs/Requests.antt: this is InForm).
 -- Assumes nothing.
-use mathlib.Core.Bool.{Bool, true, false, cond, _&&_}
+use mathlib.Core.Bool.{Bool, true, false, not, _&&_}
 use mathlib.Core.List.{List, [], _∷_}
 use Prim.Native.Nat.{ℕ, zero, suc, _+_, _*_, _/_, _%_}
 use lib.ListN.{length, getD, drop}
 use lib.Dec.{leb, eqb}
+use Rattle.refusal.specs.Refusals.{fault, Answer, answer, answerAfter}
 use Rattle.text.specs.declared.Header.{Header}
 use Rattle.text.specs.declared.Header.the-variants.{Refused, Read}
 use Rattle.text.specs.Text.{requestText}
@@ -67,6 +68,11 @@ sameBytes (a ∷ s) (b ∷ t) = eqb a b && sameBytes s t
 unfoldable pub inForm : List ℕ → Bool
 inForm s = leb (length s) 4096 && sameBytes s (rewritten s)
 
--- line one of a text in form
-unfoldable pub headerOf : List ℕ → Header
-headerOf s = cond (inForm s) (Read (kindOf s) (polynomialOf s) (orderOf s) (countOf s)) Refused
+-- what the reading of line one says: 1 where the text is refused, else its four numbers
+abbrev pub saysHeader : Header → Answer (List ℕ)
+saysHeader Refused = answer 1 []
+saysHeader (Read kind polynomial order count) = answer 0 (kind ∷ polynomial ∷ order ∷ count ∷ [])
+
+-- line one of a text; 1: not of the form
+unfoldable pub headerAnswer : List ℕ → Answer (List ℕ)
+headerAnswer s = answerAfter [] (fault 1 (not (inForm s)) ∷ []) (lineOne s)

@@ -6,7 +6,7 @@ ghost use mathlib.Core.Bool.{_||_};
 ghost use lib.Dec.{eqb};
 ghost use lib.ListN.{length};
 ghost use Rattle.text.specs.Text.{columnByte, column, lineText, lineEnd, valueText, SixDigits};
-ghost use Rattle.text.specs.Reading.{digitAt, numberAt, valueAt, valuesFrom, lineOne, rewritten, sameBytes, inForm, headerOf};
+ghost use Rattle.text.specs.Reading.{digitAt, numberAt, valueAt, valuesFrom, lineOne, rewritten, sameBytes, inForm, saysHeader, headerAnswer};
 ghost use Rattle.text.specs.Writing.{Put};
 
 // The bytes of line one of a request text, the most bytes of a text, and the most values that such a text holds.
@@ -215,7 +215,7 @@ pub fn in_form(text: &[u8]) -> bool
 
 // Line one of a text in form; a text that is not in form is refused.
 pub fn read_header(text: &[u8]) -> Header
-    ensures { λ r. ⌜ r ≡ headerOf (now (text .entry)) ⌝ }
+    ensures { λ r. ⌜ saysHeader r ≡ headerAnswer (now (text .entry)) ⌝ }
 {
     if in_form(text) {
         Header::Read {

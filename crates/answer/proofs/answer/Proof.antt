@@ -1,15 +1,15 @@
 -- `answer::answer` meets its contract: a text that is not in form is refused with 1, any other is answered by its kind. Assumes nothing.
-use mathlib.Core.Path.{_≡_, sym, _∙_}
+use mathlib.Core.Path.{_≡_, sym, ap, _∙_}
 use native.Mathlib.Omega.{arith}
 use Prim.Native.Nat.{_≤_}
 use lib.ListN.{length}
 use denote.Ref.{now}
 use Rattle.text.specs.declared.Header.the-variants.{Read}
-use Rattle.text.specs.Reading.{headerOf}
+use Rattle.text.specs.Reading.{saysHeader, headerAnswer}
 use Rattle.text.proofs.Form.{form-long}
 use Rattle.text.proofs.Requests.{header-read, header-refused}
-use Rattle.answer.proofs.Chains.{text-refused, text-numbers}
-use Rattle.answer.proofs.Replies.{answered}
+use Rattle.answer.proofs.DueFrom.{text-refused, text-numbers}
+use Rattle.answer.proofs.Replies.{replied-as, answered}
 use borrow.Author.Needs.{needs}
 use Rattle.answer.proofs.answer.Statement.{statement}
 use Rattle.answer.proofs.answer.Tie as tie
@@ -28,9 +28,9 @@ enum-known-kind c = search needs
 
 -- line one is read
 header : (c : tie.After-known-told)
-    → headerOf (now (c .before .before .before .before .before .before .args .request))
-    ≡ Read (c .before .kind .given .0 .0) (c .before .kind .given .0 .1 .0) (c .before .kind .given .0 .1 .1 .0) (c .before .kind .given .0 .1 .1 .1 .0)
-header c = sym (c .before .before .before .read-header .ensures) ∙ c .before .kind .given .1
+    → saysHeader (Read (c .before .kind .given .0 .0) (c .before .kind .given .0 .1 .0) (c .before .kind .given .0 .1 .1 .0) (c .before .kind .given .0 .1 .1 .1 .0))
+    ≡ headerAnswer (now (c .before .before .before .before .before .before .args .request))
+header c = ap saysHeader (sym (c .before .kind .given .1)) ∙ c .before .before .before .read-header .ensures
 
 long : (c : tie.After-known-told) → 25 ≤ length (now (c .before .before .before .before .before .before .args .request))
 long c =
@@ -57,7 +57,8 @@ returns c =
     let told = c .before .before .before .before in
     let s = now (told .before .before .before .before .before .args .request) in
     answered s
-    (rw (text-refused s (header-refused s (sym (told .before .before .read-header .ensures) ∙ told .enum-told .given .1))) (c .before .before .refuse .ensures))
+    (replied-as (text-refused s (header-refused s (ap saysHeader (sym (told .enum-told .given .1)) ∙ told .before .before .read-header .ensures)))
+    (c .before .before .refuse .ensures))
 
 same-length-2 : tie.Need-same-length-2
 same-length-2 c = search needs
@@ -67,7 +68,7 @@ returns-2 c =
     let called = c .before .before in
     let known = called .before .before .before in
     let s = now (known .before .before .before .before .before .before .args .request) in
-    answered s (rw (text-numbers s _ _ _ _ (header known)) (called .answer-kind .ensures))
+    answered s (replied-as (text-numbers s _ _ _ _ (header known)) (called .answer-kind .ensures))
 
 pub answer-spec : {M : Type 1} → statement M
 answer-spec =

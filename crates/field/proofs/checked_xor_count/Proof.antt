@@ -1,10 +1,9 @@
 -- `field::checked_xor_count` meets its contract: what the polynomial is refused for, the call is. Assumes nothing.
-use mathlib.Core.Path.{_≡_, sym, ap, _∙_}
-use native.Mathlib.Nat.{lt-of-le-of-lt}
-use lib.Dec.{lit<}
+use mathlib.Core.Path.{_∙_}
+use Rattle.refusal.proofs.Faults.{outcome-refused}
 use Rattle.field.specs.Polynomial.{Modulus}
-use Rattle.field.specs.Outcome.{answerOf, countAnswer}
-use Rattle.field.proofs.Calls.{degree-accepted, degree-refused, over-modulus}
+use Rattle.field.specs.Faults.{polynomialFaults}
+use Rattle.field.proofs.Calls.{degree-modulus, modulus-passed, modulus-fits}
 use borrow.Author.Needs.{needs}
 use Rattle.field.proofs.checked_xor_count.Statement.{statement}
 use Rattle.field.proofs.checked_xor_count.Tie as tie
@@ -20,23 +19,20 @@ enum-told c = search needs
 
 -- the polynomial passes where its degree is told
 modulus : (c : tie.After-enum-told) → Modulus (c .before .before .before .args .p)
-modulus c = degree-accepted (c .before .before .before .args .p) _ (ap answerOf (sym (c .enum-told .given .1)) ∙ c .before .before .checked-degree .ensures) .0
+modulus c = degree-modulus _ (c .before .before .before .args .p) _ (c .before .before .checked-degree .ensures) (c .enum-told .given .1)
 
 cast-xor-count-over : tie.Need-cast-xor-count-over
-cast-xor-count-over c = record { fits = lt-of-le-of-lt (modulus c .high) (lit< tt) }
+cast-xor-count-over c = record { fits = modulus-fits (modulus c) }
 
 xor-count-over-requires : tie.Need-xor-count-over-requires
 xor-count-over-requires c κs = modulus c
 
 returns : tie.Need-returns
-unfolding countAnswer
 returns c =
-    degree-refused (c .before .before .before .before .args .p) (c .before .r .given .0 .0) _
-    (ap answerOf (sym (c .before .r .given .1)) ∙ c .before .before .before .checked-degree .ensures)
+    outcome-refused _ (polynomialFaults (c .before .before .before .before .args .p)) _ (c .before .before .before .checked-degree .ensures) 0 _ _ _ (c .before .r .given .1)
 
 returns-2 : tie.Need-returns-2
-unfolding countAnswer
-returns-2 c = c .xor-count-over .ensures ∙ sym (over-modulus (c .before .before .before .before .args .p) _ (modulus (c .before)))
+returns-2 c = c .xor-count-over .ensures ∙ modulus-passed 0 _ (c .before .before .before .before .args .p) _ (modulus (c .before))
 
 pub checked-xor-count-spec : {M : Type 1} → statement M
 checked-xor-count-spec =

@@ -1,11 +1,10 @@
 -- `field::degree` meets its contract: each halving takes one off the degree of what is left. Assumes nothing.
-use mathlib.Core.Path.{_≡_, refl, sym, ap, _∙_}
-use Prim.Native.Nat.{ℕ, suc, _+_, _/_, _≤_, _<_}
-use native.Mathlib.Nat.{zero-add, add-zero}
+use mathlib.Core.Path.{_≡_, sym}
+use Prim.Native.Nat.{suc, _+_, _/_, _≤_, _<_}
+use native.Mathlib.Nat.{zero-add}
 use native.Mathlib.Omega.{arith}
 use Rattle.field.specs.Polynomial.{degree}
 use Rattle.field.proofs.Degrees.{degree-half, degree-small, degree-lt}
-use borrow.Author.Needs.{needs}
 use Rattle.field.proofs.degree.Statement.{statement}
 use Rattle.field.proofs.degree.Tie as tie
 

@@ -1,16 +1,15 @@
 -- `field::inverse` meets its contract: no element before b is an inverse, and there is one. Assumes nothing.
-use mathlib.Core.Path.{_≡_, refl, sym, ap, _∙_, subst, subst⁻¹}
+use mathlib.Core.Path.{_≡_, sym, _∙_, subst, subst⁻¹}
 use native.Mathlib.Nat.{lt-of-lt-of-le}
 use native.Mathlib.Numerals.{add-one}
-use Prim.Native.Nat.{ℕ, suc, _+_, _-_, _^_, _≤_, _<_}
+use Prim.Native.Nat.{ℕ, _+_, _-_, _^_, _<_}
 use native.Mathlib.Omega.{arith}
 use borrow.Author.Count.{below-more, below-none}
 use lib.Pow.{pow-mono, pow-pos}
-use Rattle.field.specs.Polynomial.{degree, product, inverse}
+use Rattle.field.specs.Polynomial.{degree, product}
 use Rattle.field.proofs.Degrees.{polynomial}
 use Rattle.field.proofs.Irreducibility.{irreducible-to}
 use Rattle.field.proofs.Inverses.{inverse-is, inverse-beyond}
-use borrow.Author.Needs.{needs}
 use Rattle.field.proofs.inverse.Statement.{statement}
 use Rattle.field.proofs.inverse.Tie as tie
 

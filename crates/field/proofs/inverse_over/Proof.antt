@@ -1,13 +1,12 @@
 -- `field::inverse_over` meets its contract. Assumes nothing.
-use mathlib.Core.Path.{_≡_, sym, ap, ap₂, _∙_}
-use mathlib.Core.Bool.{Bool, _||_, or-true}
-use Prim.Native.Nat.{ℕ}
+use mathlib.Core.Path.{sym, ap, _∙_}
 use native.Mathlib.Nat.{pos-of-ne-zero}
 use borrow.Author.Tests.{eq-eqb, ne-eqb}
-use lib.Dec.{eqb}
-use Rattle.field.specs.Polynomial.{product, inverse, xorCount}
-use Rattle.field.specs.Outcome.{accepted, refused, refuse, isTooLarge}
-use Rattle.field.proofs.Calls.{not-too-large, element-fits, refuse-taken, refuse-left}
+use Rattle.field.specs.Polynomial.{inverse}
+use Rattle.refusal.specs.Refusals.{answer}
+use Rattle.refusal.specs.declared.Refusal.the-variants.{ValueRange, BadCandidate}
+use Rattle.refusal.proofs.Faults.{after-taken, after-left, after-empty}
+use Rattle.field.proofs.Calls.{not-too-large, element-fits}
 use borrow.Author.Needs.{needs}
 use Rattle.field.proofs.inverse_over.Statement.{statement}
 use Rattle.field.proofs.inverse_over.Tie as tie
@@ -16,12 +15,12 @@ too-large-requires : tie.Need-too-large-requires
 too-large-requires c κs = search needs
 
 returns : tie.Need-returns
-returns c = refuse-taken 7 _ _ (sym (c .before .too-large .ensures) ∙ c .if1 .taken)
+returns c = after-taken 0 _ ValueRange _ _ (sym (c .before .too-large .ensures) ∙ c .if1 .taken)
 
 returns-2 : tie.Need-returns-2
 returns-2 c =
-    refuse-taken 8 _ _ (eq-eqb (c .before .before .before .args .a) 0 (c .if2 .taken))
-    ∙ refuse-left 7 _ _ (sym (c .before .before .too-large .ensures) ∙ c .before .if1 .left)
+    after-taken 0 _ BadCandidate _ _ (eq-eqb (c .before .before .before .args .a) 0 (c .if2 .taken))
+    ∙ after-left 0 _ 7 _ _ (sym (c .before .before .too-large .ensures) ∙ c .before .if1 .left)
 
 cast-inverse : tie.Need-cast-inverse
 cast-inverse c = record { fits = element-fits (c .before .before .before .args .p) (c .before .before .before .args .a) (c .before .before .before .pre) (sym (c .before .before .too-large .ensures) ∙ c .before .if1 .left) }
@@ -34,9 +33,10 @@ cast-t9 c = search needs
 
 returns-3 : tie.Need-returns-3
 returns-3 c =
-    ap accepted (c .inverse .ensures)
-    ∙ refuse-left 8 _ _ (ne-eqb (c .before .before .before .before .args .a) 0 (c .before .if2 .left))
-    ∙ refuse-left 7 _ _ (sym (c .before .before .before .too-large .ensures) ∙ c .before .before .if1 .left)
+    ap (answer 0) (c .inverse .ensures)
+    ∙ after-empty 0 _
+    ∙ after-left 0 _ 8 _ _ (ne-eqb (c .before .before .before .before .args .a) 0 (c .before .if2 .left))
+    ∙ after-left 0 _ 7 _ _ (sym (c .before .before .before .too-large .ensures) ∙ c .before .before .if1 .left)
 
 pub inverse-over-spec : {M : Type 1} → statement M
 inverse-over-spec =

@@ -1,8 +1,8 @@
 -- `field::product` meets its contract. The invariant: what is added so far, plus the doubled factor times the bits left, is the product.
 -- Assumes nothing.
-use mathlib.Core.Path.{_≡_, refl, sym, ap, _∙_, subst, subst⁻¹}
+use mathlib.Core.Path.{_≡_, sym, ap, _∙_, subst, subst⁻¹}
 use native.Mathlib.Nat.{zero-mul, one-mul, pos-of-ne-zero, lt-of-lt-of-le}
-use Prim.Native.Nat.{ℕ, _*_, _^_, _≤_, _<_, _/_, _%_}
+use Prim.Native.Nat.{ℕ, _*_, _^_, _<_, _/_}
 use native.Mathlib.Omega.{arith}
 use lib.Pow.{pow-mono, pow-pos}
 use lib.Bits.{bitAnd, and-mask}
@@ -11,7 +11,6 @@ use Rattle.field.proofs.Sum.{sum-zero-l, sum-zero-r, sum-assoc, sum-lt,
 use Rattle.field.proofs.Degrees.{polynomial}
 use Rattle.field.proofs.Division.{rem-lt}
 use Rattle.field.proofs.Field.{times-step, times-zero-r}
-use borrow.Author.Needs.{needs}
 use Rattle.field.proofs.product.Statement.{statement}
 use Rattle.field.proofs.product.Tie as tie
 

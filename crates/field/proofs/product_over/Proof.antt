@@ -1,13 +1,12 @@
 -- `field::product_over` meets its contract. Assumes nothing.
 use mathlib.Core.Path.{_≡_, sym, ap, ap₂, _∙_}
 use mathlib.Core.Bool.{Bool, false, _||_, or-true}
-use Prim.Native.Nat.{ℕ}
-use native.Mathlib.Nat.{pos-of-ne-zero}
-use borrow.Author.Tests.{eq-eqb, ne-eqb}
-use lib.Dec.{eqb}
-use Rattle.field.specs.Polynomial.{product, inverse, xorCount}
-use Rattle.field.specs.Outcome.{accepted, refused, refuse, isTooLarge}
-use Rattle.field.proofs.Calls.{not-too-large, element-fits, refuse-taken, refuse-left}
+use Rattle.field.specs.Polynomial.{product}
+use Rattle.refusal.specs.Refusals.{answer}
+use Rattle.refusal.specs.declared.Refusal.the-variants.{ValueRange}
+use Rattle.refusal.proofs.Faults.{after-taken, after-left, after-empty}
+use Rattle.field.specs.Faults.{isTooLarge}
+use Rattle.field.proofs.Calls.{not-too-large, element-fits}
 use borrow.Author.Needs.{needs}
 use Rattle.field.proofs.product_over.Statement.{statement}
 use Rattle.field.proofs.product_over.Tie as tie
@@ -17,7 +16,7 @@ too-large-requires c κs = search needs
 
 returns : tie.Need-returns
 returns c =
-    refuse-taken 7 _ _
+    after-taken 0 _ ValueRange _ _
     (ap (λ (b : Bool). b || isTooLarge (c .before .before .args .p) (c .before .before .args .b)) (sym (c .before .too-large .ensures) ∙ c .if1 .taken))
 
 too-large-requires-2 : tie.Need-too-large-requires-2
@@ -25,7 +24,7 @@ too-large-requires-2 c κs = search needs
 
 returns-2 : tie.Need-returns-2
 returns-2 c =
-    refuse-taken 7 _ _
+    after-taken 0 _ ValueRange _ _
     (ap (λ (b : Bool). isTooLarge (c .before .before .before .before .args .p) (c .before .before .before .before .args .a) || b) (sym (c .before .too-large2 .ensures) ∙ c .if2 .taken)
     ∙ or-true (isTooLarge (c .before .before .before .before .args .p) (c .before .before .before .before .args .a)))
 
@@ -49,7 +48,7 @@ cast-t11 : tie.Need-cast-t11
 cast-t11 c = search needs
 
 returns-3 : tie.Need-returns-3
-returns-3 c = ap accepted (c .product .ensures) ∙ refuse-left 7 _ _ (ap₂ _||_ (first (c .before)) (second (c .before)))
+returns-3 c = ap (answer 0) (c .product .ensures) ∙ after-empty 0 _ ∙ after-left 0 _ 7 _ _ (ap₂ _||_ (first (c .before)) (second (c .before)))
 
 pub product-over-spec : {M : Type 1} → statement M
 product-over-spec =

@@ -1,12 +1,12 @@
 -- `field::too_large` meets its contract: 1 shifted by the degree is 2^m. Assumes nothing.
-use mathlib.Core.Path.{_≡_, ap, _∙_}
+use mathlib.Core.Path.{ap, _∙_}
 use Prim.Native.Nat.{ℕ, _*_, _%_, _^_}
 use native.Mathlib.Nat.{one-mul, mod-eq-of-lt, lt-of-le-of-lt}
 use native.Mathlib.Omega.{arith}
 use lib.Dec.{leb, lit<}
 use lib.Pow.{pow-mono}
 use Rattle.field.specs.Polynomial.{degree}
-use Rattle.field.specs.Outcome.{isTooLarge}
+use Rattle.field.specs.Faults.{isTooLarge}
 use Rattle.field.proofs.Degrees.{polynomial}
 use borrow.Author.Needs.{needs}
 use Rattle.field.proofs.too_large.Statement.{statement}

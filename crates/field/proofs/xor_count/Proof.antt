@@ -1,11 +1,11 @@
 -- `field::xor_count` meets its contract: after j turns the column is a times 2^j, and the ones of the columns before it are counted.
 -- Assumes nothing.
 use mathlib.Core.Path.{_≡_, refl, sym, ap, ap₂, _∙_, subst, subst⁻¹, subst₂}
-use Prim.Native.Nat.{ℕ, suc, _+_, _-_, _*_, _^_, _≤_, _<_, zero-le}
+use Prim.Native.Nat.{ℕ, _+_, _-_, _*_, _^_, _≤_, _<_, zero-le}
 use native.Mathlib.Nat.{pos-of-ne-zero, pow-suc, le-refl, lt-of-le-of-lt, lt-of-lt-of-le}
 use native.Mathlib.Numerals.{add-one}
 use native.Mathlib.Omega.{arith}
-use lib.Pow.{pow-mono, pow-pos}
+use lib.Pow.{pow-mono}
 use lib.Dec.{lit<}
 use lib.Count.{ones, ones-le}
 use Rattle.field.specs.Polynomial.{degree, rem, product, onesInColumns, xorCount}

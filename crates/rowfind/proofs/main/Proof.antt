@@ -1,6 +1,8 @@
 -- `rowfind::main` is safe and ends: what is lent lies within the two spaces. Assumes nothing.
 use mathlib.Core.Path.{sym}
+use native.Mathlib.Omega.{arith}
 use lib.Seq.{length-take-le}
+use Rattle.answer.proofs.Shown.{shown-most}
 use borrow.Author.Needs.{needs}
 use Rattle.rowfind.proofs.main.Statement.{statement}
 use Rattle.rowfind.proofs.main.Tie as tie
@@ -24,7 +26,7 @@ respond-requires : tie.Need-respond-requires
 respond-requires c κs = search needs
 
 array-share-prefix-space : tie.Need-array-share-prefix-space
-array-share-prefix-space c = search needs
+array-share-prefix-space c = omega (arith, shown-most (c .before .respond .ensures))
 
 slice-aggregate-write-all : tie.Need-slice-aggregate-write-all
 slice-aggregate-write-all c = sym (length-take-le _ _ (array-share-prefix-space (c .before)))

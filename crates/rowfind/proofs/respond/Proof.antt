@@ -1,5 +1,4 @@
 -- `rowfind::respond` meets its contract: with 583 bytes every answer fits. Assumes nothing.
-use native.Mathlib.Omega.{arith}
 use Rattle.answer.proofs.Shown.{shown-answer, shown-refusal}
 use borrow.Author.Needs.{needs}
 use Rattle.rowfind.proofs.respond.Statement.{statement}
@@ -24,7 +23,7 @@ returns-2 : tie.Need-returns-2
 returns-2 c =
     let called = c .before .before .before .before in
     let start = called .before .before .before .before in
-    (shown-refusal (called .answer .ensures) (start .pre) (c .if1 .left), omega (arith, start .pre))
+    shown-refusal (called .answer .ensures) (start .pre) (c .if1 .left)
 
 pub respond-spec : {M : Type 1} → statement M
 respond-spec = tie.close (tie.spec answer-requires same-length returns same-length-2 returns-2)

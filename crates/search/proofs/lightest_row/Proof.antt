@@ -2,13 +2,17 @@
 use mathlib.Core.Path.{sym}
 use native.Mathlib.Omega.{arith}
 use lib.Seq.{length-take-le}
-use Rattle.search.proofs.Start.{field-most, listed-fits, start-stands, start-answer}
+use Rattle.search.specs.Steps.Hadamard.{hadamardCuts}
+use Rattle.search.proofs.HadamardCuts.{order-most, order-least, tried-rows}
+use Rattle.search.proofs.LetterCounts.{listed-fits}
+use Rattle.search.proofs.Start.{start-at, start-answer}
 use borrow.Author.Needs.{needs}
 use Rattle.search.proofs.lightest_row.Statement.{statement}
 use Rattle.search.proofs.lightest_row.Tie as tie
+use Rattle.field.proofs.Calls.{elements-most}
 
-cost-table-requires : tie.Need-cost-table-requires
-cost-table-requires c κs = search needs
+count-table-requires : tie.Need-count-table-requires
+count-table-requires c κs = search needs
 
 size-requires : tie.Need-size-requires
 size-requires c κs = search needs
@@ -16,48 +20,50 @@ size-requires c κs = search needs
 letters-of-requires : tie.Need-letters-of-requires
 letters-of-requires c κs =
     let s = c .before .before .before .before in
-    omega (arith, c .size .ensures, field-most (s .args .p) (s .pre .0))
+    omega (arith, c .size .ensures, elements-most (s .args .p) (s .pre .0))
 
 array-share-prefix-list : tie.Need-array-share-prefix-list
-array-share-prefix-list c = listed-fits _ _ _ (c .before .before .letters-of .ensures)
+array-share-prefix-list c = listed-fits _ _ (c .before .before .letters-of .ensures)
 
-slice-aggregate-least-cost : tie.Need-slice-aggregate-least-cost
-slice-aggregate-least-cost c = sym (length-take-le _ _ (listed-fits _ _ _ (c .before .before .before .letters-of .ensures)))
+slice-aggregate-least-count : tie.Need-slice-aggregate-least-count
+slice-aggregate-least-count c = sym (length-take-le _ _ (listed-fits _ _ (c .before .before .before .letters-of .ensures)))
 
-least-cost-requires : tie.Need-least-cost-requires
-least-cost-requires c κs = search needs
+least-count-requires : tie.Need-least-count-requires
+least-count-requires c κs = search needs
 
 cast-least : tie.Need-cast-least
 cast-least c = search needs
 
 array-share-prefix-list-2 : tie.Need-array-share-prefix-list-2
-array-share-prefix-list-2 c = listed-fits _ _ _ (c .before .before .before .before .letters-of .ensures)
+array-share-prefix-list-2 c = listed-fits _ _ (c .before .before .before .before .letters-of .ensures)
 
 slice-aggregate-extend : tie.Need-slice-aggregate-extend
-slice-aggregate-extend c = sym (length-take-le _ _ (listed-fits _ _ _ (c .before .before .before .before .before .letters-of .ensures)))
+slice-aggregate-extend c = sym (length-take-le _ _ (listed-fits _ _ (c .before .before .before .before .before .letters-of .ensures)))
 
 extend-requires : tie.Need-extend-requires
 extend-requires c κs =
     let s = c .before .before .before .before .before .before .before .before .before .before .before in
-    start-stands (s .args .p) (s .args .n) (s .pre .0) (s .pre .1) (s .args .candidates .now) (s .pre .2) _ _ _ _ _ (c .before .before .before .before .before .before .before .before .before .cost-table .ensures) (c .before .before .before .before .before .before .before .size .ensures)
-    (c .before .before .before .before .before .before .letters-of .ensures) (c .before .before .least-cost .ensures)
+    start-at (s .args .p) (s .args .n) (s .pre .0) (s .args .candidates .now) (s .pre .2) _ _ _ _ (c .before .before .before .before .before .before .before .before .before .count-table .ensures) (c .before .before .before .before .before .before .before .size .ensures)
+    (c .before .before .before .before .before .before .letters-of .ensures) (c .before .before .least-count .ensures)
+    hadamardCuts (s .pre .1) (order-least (s .args .n) (s .pre .1)) (order-most (s .args .n) (s .pre .1))
 
 returns : tie.Need-returns
 returns c =
     let s = c .before .before .before .before .before .before .before .before .before .before .before .before in
-    start-answer (s .args .p) (s .args .n) (s .pre .0) (s .pre .1) (s .args .candidates .now) (s .pre .2) _ _ _ _ _ (c .before .before .before .before .before .before .before .before .before .before .cost-table .ensures) (c .before .before .before .before .before .before .before .before .size .ensures)
-    (c .before .before .before .before .before .before .before .letters-of .ensures) (c .before .before .before .least-cost .ensures) (c .extend .result) (c .extend .ensures)
+    start-answer (s .args .p) (s .args .n) (s .pre .0) (s .args .candidates .now) (s .pre .2) _ _ _ _ (c .before .before .before .before .before .before .before .before .before .before .count-table .ensures) (c .before .before .before .before .before .before .before .before .size .ensures)
+    (c .before .before .before .before .before .before .before .letters-of .ensures) (c .before .before .before .least-count .ensures)
+    hadamardCuts (tried-rows (s .args .p) (s .args .n) (s .pre .0) (s .pre .1) (s .args .candidates .now)) (c .extend .result) (c .extend .ensures)
 
 pub lightest-row-spec : {M : Type 1} → statement M
 lightest-row-spec =
     tie.close
     (tie.spec
-    cost-table-requires
+    count-table-requires
     size-requires
     letters-of-requires
     array-share-prefix-list
-    slice-aggregate-least-cost
-    least-cost-requires
+    slice-aggregate-least-count
+    least-count-requires
     cast-least
     array-share-prefix-list-2
     slice-aggregate-extend

@@ -1,11 +1,10 @@
 -- `search::search` meets its contract: what the polynomial is refused for, the search is. Assumes nothing.
-use mathlib.Core.Path.{sym, ap, _∙_}
-use native.Mathlib.Nat.{lt-of-le-of-lt}
-use lib.Dec.{lit<}
+use mathlib.Core.Path.{_∙_}
+use Rattle.refusal.proofs.Faults.{outcome-refused}
 use Rattle.field.specs.Polynomial.{Modulus}
-use Rattle.field.specs.Outcome.{answerOf}
-use Rattle.field.proofs.Calls.{degree-accepted}
-use Rattle.search.proofs.Refusals.{search-refused, search-modulus}
+use Rattle.field.specs.Faults.{polynomialFaults}
+use Rattle.field.proofs.Calls.{degree-modulus, modulus-fits}
+use Rattle.search.specs.Answer.{noRow, searchFaults, searchAnswer}
 use borrow.Author.Needs.{needs}
 use Rattle.search.proofs.search.Statement.{statement}
 use Rattle.search.proofs.search.Tie as tie
@@ -24,25 +23,22 @@ enum-told c = search needs
 
 -- the polynomial passes where its degree is told
 modulus : (c : tie.After-enum-told) → Modulus (c .before .before .before .before .args .p)
-modulus c = degree-accepted (c .before .before .before .before .args .p) _ (ap answerOf (sym (c .enum-told .given .1)) ∙ c .before .before .checked-degree .ensures) .0
+modulus c = degree-modulus _ (c .before .before .before .before .args .p) _ (c .before .before .checked-degree .ensures) (c .enum-told .given .1)
 
 cast-search-over : tie.Need-cast-search-over
-cast-search-over c = record { fits = lt-of-le-of-lt (modulus c .high) (lit< tt) }
+cast-search-over c = record { fits = modulus-fits (modulus c) }
 
 search-over-requires : tie.Need-search-over-requires
 search-over-requires c κs = modulus c
 
 returns : tie.Need-returns
+unfolding searchAnswer searchFaults
 returns c =
-    let s = c .before .before .before .before .before .before in
     c .refused .ensures
-    ∙ search-refused (s .args .p) (s .args .n) (s .args .candidates .now) (c .before .before .r .given .0 .0)
-    (ap answerOf (sym (c .before .before .r .given .1)) ∙ c .before .before .before .before .checked-degree .ensures)
+    ∙ outcome-refused _ (polynomialFaults (c .before .before .before .before .before .before .args .p)) _ (c .before .before .before .before .checked-degree .ensures) noRow _ _ _ (c .before .before .r .given .1)
 
 returns-2 : tie.Need-returns-2
-returns-2 c =
-    let s = c .before .before .before .before .before in
-    c .search-over .ensures ∙ search-modulus (s .args .p) (s .args .n) (s .args .candidates .now) (modulus (c .before))
+returns-2 c = c .search-over .ensures
 
 pub search-spec : {M : Type 1} → statement M
 search-spec =

@@ -1,10 +1,35 @@
--- `search::search_over` meets its contract: the first fault in the chain is told. Assumes nothing.
-use mathlib.Core.Path.{sym, _∙_}
-use Rattle.search.specs.Answer.{lightestRow}
-use Rattle.search.proofs.Refusals.{order-of, refuse-taken, refuse-left, says-empty}
+-- `search::search_over` meets its contract: the first fault of the list is told. Assumes nothing.
+use mathlib.Core.Path.{_≡_, sym, ap, _∙_}
+use mathlib.Core.Bool.{false}
+use mathlib.Core.List.{[], _∷_}
+use Rattle.refusal.specs.Refusals.{fault, answerAfter}
+use lib.ListN.{length}
+use Rattle.refusal.specs.declared.Refusal.the-variants.{OrderRange, CountRange, ValueRange, BadCandidate}
+use Rattle.refusal.proofs.Faults.{after-taken, after-left}
+use Rattle.search.specs.Lightest.{Best}
+use Rattle.search.specs.Shape.{hadamardShape}
+use Rattle.search.specs.Answer.{isWrongSearchOrder, isWrongSearchCount, someTooLarge, someBad, isNone, noRow, rowFound, searchFaults, searchAnswer}
+use Rattle.field.proofs.Calls.{modulus-passed}
+use Rattle.search.proofs.HadamardCuts.{order-most}
+use Rattle.search.proofs.Prefixes.{best-is, kept-own}
+use Rattle.search.proofs.Refusals.{order-of}
+use Rattle.search.proofs.Start.{row-long, row-in-field}
 use borrow.Author.Needs.{needs}
 use Rattle.search.proofs.search_over.Statement.{statement}
 use Rattle.search.proofs.search_over.Tie as tie
+
+-- what passed before a test is reached
+order : (c : tie.Else1) → isWrongSearchOrder (c .before .before .before .args .n) ≡ false
+order c = sym (c .before .is-wrong-order .ensures) ∙ c .if1 .left
+
+count : (c : tie.Else2) → isWrongSearchCount (c .before .before .before .before .before .args .n) (length (c .before .before .before .before .before .args .candidates .now)) ≡ false
+count c = sym (c .before .is-wrong-count .ensures) ∙ c .if2 .left
+
+values : (c : tie.Else3) → someTooLarge (c .before .before .before .before .before .before .before .args .p) (c .before .before .before .before .before .before .before .args .candidates .now) ≡ false
+values c = sym (c .before .some-too-large .ensures) ∙ c .if3 .left
+
+bad : (c : tie.Else4) → someBad (c .before .before .before .before .before .before .before .before .before .args .candidates .now) ≡ false
+bad c = sym (c .before .some-bad .ensures) ∙ c .if4 .left
 
 is-wrong-order-requires : tie.Need-is-wrong-order-requires
 is-wrong-order-requires c κs = search needs
@@ -13,7 +38,11 @@ refused-requires : tie.Need-refused-requires
 refused-requires c κs = search needs
 
 returns : tie.Need-returns
-returns c = c .refused .ensures ∙ refuse-taken 5 _ _ (sym (c .before .before .is-wrong-order .ensures) ∙ c .before .if1 .taken)
+unfolding searchAnswer searchFaults
+returns c =
+    c .refused .ensures
+    ∙ after-taken noRow _ OrderRange _ _ (sym (c .before .before .is-wrong-order .ensures) ∙ c .before .if1 .taken)
+    ∙ modulus-passed noRow _ (c .before .before .before .before .args .p) _ (c .before .before .before .before .pre)
 
 is-wrong-count-requires : tie.Need-is-wrong-count-requires
 is-wrong-count-requires c κs = search needs
@@ -22,7 +51,12 @@ refused-requires-2 : tie.Need-refused-requires-2
 refused-requires-2 c κs = search needs
 
 returns-2 : tie.Need-returns-2
-returns-2 c = c .refused2 .ensures ∙ refuse-taken 6 _ _ (sym (c .before .before .is-wrong-count .ensures) ∙ c .before .if2 .taken) ∙ sym (refuse-left 5 _ _ (sym (c .before .before .before .before .is-wrong-order .ensures) ∙ c .before .before .before .if1 .left))
+unfolding searchAnswer searchFaults
+returns-2 c =
+    c .refused2 .ensures
+    ∙ after-taken noRow _ CountRange _ _ (sym (c .before .before .is-wrong-count .ensures) ∙ c .before .if2 .taken)
+    ∙ after-left noRow _ 5 _ _ (order (c .before .before .before))
+    ∙ modulus-passed noRow _ (c .before .before .before .before .before .before .args .p) _ (c .before .before .before .before .before .before .pre)
 
 some-too-large-requires : tie.Need-some-too-large-requires
 some-too-large-requires c κs = search needs
@@ -31,7 +65,13 @@ refused-requires-3 : tie.Need-refused-requires-3
 refused-requires-3 c κs = search needs
 
 returns-3 : tie.Need-returns-3
-returns-3 c = c .refused3 .ensures ∙ refuse-taken 7 _ _ (sym (c .before .before .some-too-large .ensures) ∙ c .before .if3 .taken) ∙ sym (refuse-left 5 _ _ (sym (c .before .before .before .before .before .before .is-wrong-order .ensures) ∙ c .before .before .before .before .before .if1 .left) ∙ refuse-left 6 _ _ (sym (c .before .before .before .before .is-wrong-count .ensures) ∙ c .before .before .before .if2 .left))
+unfolding searchAnswer searchFaults
+returns-3 c =
+    c .refused3 .ensures
+    ∙ after-taken noRow _ ValueRange _ _ (sym (c .before .before .some-too-large .ensures) ∙ c .before .if3 .taken)
+    ∙ after-left noRow _ 6 _ _ (count (c .before .before .before))
+    ∙ after-left noRow _ 5 _ _ (order (c .before .before .before .before .before))
+    ∙ modulus-passed noRow _ (c .before .before .before .before .before .before .before .before .args .p) _ (c .before .before .before .before .before .before .before .before .pre)
 
 some-bad-requires : tie.Need-some-bad-requires
 some-bad-requires c κs = search needs
@@ -40,23 +80,39 @@ refused-requires-4 : tie.Need-refused-requires-4
 refused-requires-4 c κs = search needs
 
 returns-4 : tie.Need-returns-4
-returns-4 c = c .refused4 .ensures ∙ refuse-taken 8 _ _ (sym (c .before .before .some-bad .ensures) ∙ c .before .if4 .taken) ∙ sym (refuse-left 5 _ _ (sym (c .before .before .before .before .before .before .before .before .is-wrong-order .ensures) ∙ c .before .before .before .before .before .before .before .if1 .left) ∙ refuse-left 6 _ _ (sym (c .before .before .before .before .before .before .is-wrong-count .ensures) ∙ c .before .before .before .before .before .if2 .left) ∙ refuse-left 7 _ _ (sym (c .before .before .before .before .some-too-large .ensures) ∙ c .before .before .before .if3 .left))
+unfolding searchAnswer searchFaults
+returns-4 c =
+    c .refused4 .ensures
+    ∙ after-taken noRow _ BadCandidate _ _ (sym (c .before .before .some-bad .ensures) ∙ c .before .if4 .taken)
+    ∙ after-left noRow _ 7 _ _ (values (c .before .before .before))
+    ∙ after-left noRow _ 6 _ _ (count (c .before .before .before .before .before))
+    ∙ after-left noRow _ 5 _ _ (order (c .before .before .before .before .before .before .before))
+    ∙ modulus-passed noRow _ (c .before .before .before .before .before .before .before .before .before .before .args .p) _ (c .before .before .before .before .before .before .before .before .before .before .pre)
 
 lightest-row-requires : tie.Need-lightest-row-requires
 lightest-row-requires c κs =
     let s = c .before .before .before .before .before .before .before .before .before in
-    (s .pre, order-of (s .args .n) (sym (c .before .before .before .before .before .before .before .is-wrong-order .ensures) ∙ c .before .before .before .before .before .before .if1 .left), (sym (c .before .before .before .some-too-large .ensures) ∙ c .before .before .if3 .left))
+    (s .pre, order-of (s .args .n) (order (c .before .before .before .before .before .before)), values (c .before .before))
 
 found-requires : tie.Need-found-requires
 found-requires c κs =
     let s = c .before .before .before .before .before .before .before .before .before .before in
-    says-empty (s .args .p) (s .args .n) (c .lightest-row .result) (lightestRow (s .args .p) (s .args .n) (s .args .candidates .now)) (c .lightest-row .ensures)
+    let most = order-most (s .args .n) (order-of (s .args .n) (order (c .before .before .before .before .before .before .before))) in
+    let b = c .lightest-row in
+    (s .pre, most, row-in-field hadamardShape (s .args .p) (s .args .n) (s .args .candidates .now) most (b .result) (b .ensures), kept-own (s .args .p) (s .args .n) (b .result) _ (row-long hadamardShape (s .args .p) (s .args .n) (s .args .candidates .now)) (b .ensures))
 
 returns-5 : tie.Need-returns-5
+unfolding searchAnswer searchFaults
 returns-5 c =
+    let s = c .before .before .before .before .before .before .before .before .before .before .before in
     c .found .ensures
-    ∙ c .before .lightest-row .ensures
-    ∙ sym (refuse-left 5 _ _ (sym (c .before .before .before .before .before .before .before .before .before .is-wrong-order .ensures) ∙ c .before .before .before .before .before .before .before .before .if1 .left) ∙ refuse-left 6 _ _ (sym (c .before .before .before .before .before .before .before .is-wrong-count .ensures) ∙ c .before .before .before .before .before .before .if2 .left) ∙ refuse-left 7 _ _ (sym (c .before .before .before .before .before .some-too-large .ensures) ∙ c .before .before .before .before .if3 .left) ∙ refuse-left 8 _ _ (sym (c .before .before .before .some-bad .ensures) ∙ c .before .before .if4 .left))
+    ∙ ap (λ (b : Best). answerAfter noRow (fault 9 (isNone b) ∷ []) (rowFound (s .args .p) (s .args .n) b))
+    (best-is (s .args .p) (s .args .n) (c .before .lightest-row .result) _ (row-long hadamardShape (s .args .p) (s .args .n) (s .args .candidates .now)) (c .before .lightest-row .ensures))
+    ∙ after-left noRow _ 8 _ _ (bad (c .before .before))
+    ∙ after-left noRow _ 7 _ _ (values (c .before .before .before .before))
+    ∙ after-left noRow _ 6 _ _ (count (c .before .before .before .before .before .before))
+    ∙ after-left noRow _ 5 _ _ (order (c .before .before .before .before .before .before .before .before))
+    ∙ modulus-passed noRow _ (c .before .before .before .before .before .before .before .before .before .before .before .args .p) _ (c .before .before .before .before .before .before .before .before .before .before .before .pre)
 
 pub search-over-spec : {M : Type 1} → statement M
 search-over-spec =

@@ -1,8 +1,12 @@
 -- `text::read_header` meets its contract: the numbers of a text in form are those that are read.
 -- Assumes nothing.
 use borrow.Author.Needs.{needs}
-use mathlib.Core.Path.{sym, _∙_}
-use Rattle.text.specs.Reading.{headerOf, kindOf, polynomialOf, orderOf, countOf}
+use mathlib.Core.Path.{sym, ap, _∙_}
+use mathlib.Core.Bool.{not}
+use mathlib.Core.List.{[]}
+use Rattle.refusal.specs.declared.Refusal.the-variants.{Form}
+use Rattle.refusal.proofs.Faults.{after-taken, after-left, after-empty}
+use Rattle.text.specs.Reading.{lineOne, kindOf, polynomialOf, orderOf, countOf, headerAnswer}
 use Rattle.text.proofs.read_header.Statement.{statement}
 use Rattle.text.proofs.read_header.Tie as tie
 
@@ -22,22 +26,17 @@ number-at-requires-4 : tie.Need-number-at-requires-4
 number-at-requires-4 c κs = search needs
 
 returns : tie.Need-returns
-unfolding headerOf kindOf polynomialOf orderOf countOf
+unfolding headerAnswer lineOne kindOf polynomialOf orderOf countOf
 returns c =
     let third = c .before in
     let second = third .before in
     let first = second .before in
-    rw (
-      sym (first .before .before .in-form .ensures) ∙ first .before .if1 .taken,
-      first .number-at .ensures,
-      second .number-at2 .ensures,
-      third .number-at3 .ensures,
-      c .number-at4 .ensures,
-    )
+    rw (first .number-at .ensures, second .number-at2 .ensures, third .number-at3 .ensures, c .number-at4 .ensures)
+    (after-empty [] _ ∙ after-left [] _ 1 _ [] (ap not (sym (first .before .before .in-form .ensures) ∙ first .before .if1 .taken)))
 
 returns-2 : tie.Need-returns-2
-unfolding headerOf
-returns-2 c = rw (sym (c .before .in-form .ensures) ∙ c .if1 .left)
+unfolding headerAnswer
+returns-2 c = after-taken [] _ Form _ [] (ap not (sym (c .before .in-form .ensures) ∙ c .if1 .left))
 
 pub read-header-spec : {M : Type 1} → statement M
 read-header-spec =

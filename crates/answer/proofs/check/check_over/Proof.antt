@@ -1,18 +1,44 @@
--- `answer::check::check_over` meets its contract: the refusals in their order. Assumes nothing.
-use mathlib.Core.Path.{_≡_, sym, _∙_}
-use mathlib.Core.Bool.{false}
-use Prim.Native.Nat.{_+_, _*_, _≤_}
+-- `answer::check::check_over` meets its contract: the first fault of the list is told. Assumes nothing.
+use mathlib.Core.Path.{_≡_, sym, ap, _∙_}
+use mathlib.Core.Bool.{false, not}
+use mathlib.Core.List.{List, []}
+use Prim.Native.Nat.{ℕ, _+_, _*_}
 use native.Mathlib.Nat.{mul-le-mul}
 use native.Mathlib.Omega.{arith}
+use lib.Dec.{eqb}
+use lib.ListN.{length}
 use denote.Ref.{now}
+use Rattle.refusal.specs.Refusals.{answer}
+use Rattle.refusal.specs.declared.Refusal.the-variants.{OrderRange, CountRange, ValueRange}
+use Rattle.refusal.proofs.Faults.{after-taken, after-left, after-empty}
+use Rattle.field.proofs.Calls.{modulus-passed}
+use Rattle.matrix.specs.Answers.{isWrongOrder}
 use Rattle.search.specs.Answer.{someTooLarge}
 use Rattle.text.specs.Reading.{valuesFrom}
-use Rattle.text.proofs.Lengths.{length-valuesFrom}
-use Rattle.answer.proofs.Chains.{check-low, check-high, check-count, check-large, check-accepted}
-use Rattle.answer.proofs.Values.{value-small, place-below, check-read}
+use Rattle.answer.specs.Due.{checkFaults, check, dueTo}
+use Rattle.answer.proofs.Replies.{replied-as}
+use Rattle.matrix.proofs.CallFaults.{order-passes}
+use Rattle.answer.proofs.Values.{count-wrong, count-right, value-small, place-below, check-read}
 use borrow.Author.Needs.{needs}
 use Rattle.answer.proofs.check.check_over.Statement.{statement}
 use Rattle.answer.proofs.check.check_over.Tie as tie
+
+-- the values
+abbrev values : tie.Start → List ℕ
+values s = valuesFrom (now (s .args .part)) 0 (s .args .count)
+
+-- what passed before a test is reached
+order : (c : tie.Else1) → isWrongOrder (c .before .before .before .before .args .n) ≡ false
+order c = sym (c .before .wrong-order .ensures) ∙ c .if1 .left
+
+count : (c : tie.Else2) → let s = c .before .before .before .before .before in not (eqb (length (values s)) (s .args .n * s .args .n)) ≡ false
+count c = let s = c .before .before .before .before .before in count-right (now (s .args .part)) (s .args .count) (s .args .n * s .args .n) (c .if2 .left)
+
+large : (c : tie.Else3) → let s = c .before .before .before .before .before .before .before in someTooLarge (s .args .p) (values s) ≡ false
+large c = sym (c .before .some-too-large .ensures) ∙ c .if3 .left
+
+wrong-order-requires : tie.Need-wrong-order-requires
+wrong-order-requires c κs = search needs
 
 refuse-requires : tie.Need-refuse-requires
 refuse-requires c κs = search needs
@@ -21,11 +47,19 @@ same-length : tie.Need-same-length
 same-length c = search needs
 
 returns : tie.Need-returns
+unfolding dueTo check checkFaults
 returns c =
     let tested = c .before .before .before .before in
-    let start = tested .before .before .before in
-    rw (check-low (start .args .p) (start .args .n) (valuesFrom (now (start .args .part)) 0 (start .args .count)) (start .pre) (tested .if1 .taken))
+    let s = tested .before .before .before .before in
+    replied-as
+    (after-taken [] _ OrderRange _ _ (sym (tested .before .wrong-order .ensures) ∙ tested .if1 .taken)
+    ∙ modulus-passed [] _ (s .args .p) _ (s .pre))
     (c .before .before .refuse .ensures)
+
+mul-if2 : tie.Need-mul-if2
+mul-if2 c =
+    let most = order-passes _ (order c) .1 in
+    record { fits = omega (arith, mul-le-mul most most) }
 
 refuse-requires-2 : tie.Need-refuse-requires-2
 refuse-requires-2 c κs = search needs
@@ -34,18 +68,19 @@ same-length-2 : tie.Need-same-length-2
 same-length-2 c = search needs
 
 returns-2 : tie.Need-returns-2
+unfolding dueTo check checkFaults
 returns-2 c =
     let tested = c .before .before .before .before in
-    let start = tested .before .before .before .before in
-    rw (check-high (start .args .p) (start .args .n) (valuesFrom (now (start .args .part)) 0 (start .args .count)) (start .pre) (tested .if2 .taken))
+    let s = tested .before .before .before .before .before in
+    let a = s .args in
+    replied-as
+    (after-taken [] _ CountRange _ _ (count-wrong (now (a .part)) (a .count) (a .n * a .n) (tested .if2 .taken))
+    ∙ after-left [] _ 5 _ _ (order (tested .before))
+    ∙ modulus-passed [] _ (a .p) _ (s .pre))
     (c .before .before .refuse2 .ensures)
 
--- the order is right
-order-low : (c : tie.Else2) → 1 ≤ c .before .before .before .before .args .n
-order-low c = let d = c .before .if1 .left in omega (arith, d)
-
-mul-if3 : tie.Need-mul-if3
-mul-if3 c = record { fits = omega (arith, mul-le-mul (c .if2 .left) (c .if2 .left)) }
+some-too-large-requires : tie.Need-some-too-large-requires
+some-too-large-requires c κs = search needs
 
 refuse-requires-3 : tie.Need-refuse-requires-3
 refuse-requires-3 c κs = search needs
@@ -54,93 +89,65 @@ same-length-3 : tie.Need-same-length-3
 same-length-3 c = search needs
 
 returns-3 : tie.Need-returns-3
+unfolding dueTo check checkFaults
 returns-3 c =
     let tested = c .before .before .before .before in
-    let right = tested .before in
-    let start = right .before .before .before .before in
-    let s = now (start .args .part) in
-    let values = valuesFrom s 0 (start .args .count) in
-    rw (check-count (start .args .p) (start .args .n) values (start .pre) (order-low right) (right .if2 .left)
-    (λ e. tested .if3 .taken (sym (length-valuesFrom s 0 (start .args .count)) ∙ e)))
+    let counted = tested .before .before in
+    let s = counted .before .before .before .before .before in
+    replied-as
+    (after-taken [] _ ValueRange _ _ (sym (tested .before .some-too-large .ensures) ∙ tested .if3 .taken)
+    ∙ after-left [] _ 6 _ _ (count counted)
+    ∙ after-left [] _ 5 _ _ (order (counted .before))
+    ∙ modulus-passed [] _ (s .args .p) _ (s .pre))
     (c .before .before .refuse3 .ensures)
 
-some-too-large-requires : tie.Need-some-too-large-requires
-some-too-large-requires c κs = search needs
-
-refuse-requires-4 : tie.Need-refuse-requires-4
-refuse-requires-4 c κs = search needs
+put-check-requires : tie.Need-put-check-requires
+put-check-requires c κs =
+    let counted = c .before .before .before in
+    let s = counted .before .before .before .before .before in
+    let n = s .args .n in
+    let passed = order-passes n (order (counted .before)) in (
+      s .pre,
+      passed .0,
+      passed .1,
+      λ i j l m. value-small (s .args .p) (now (s .args .part)) (s .args .count) (i * n + j) (large (c .before)) (rw (counted .if2 .left) (place-below n i j l m)),
+    )
 
 same-length-4 : tie.Need-same-length-4
 same-length-4 c = search needs
 
 returns-4 : tie.Need-returns-4
+unfolding dueTo check checkFaults
 returns-4 c =
     let tested = c .before .before .before .before in
     let counted = tested .before .before in
-    let right = counted .before in
-    let start = right .before .before .before .before in
-    let s = now (start .args .part) in
-    rw (check-large (start .args .p) (start .args .n) (valuesFrom s 0 (start .args .count)) (start .pre) (order-low right) (right .if2 .left)
-    (length-valuesFrom s 0 (start .args .count) ∙ counted .if3 .left) (sym (tested .before .some-too-large .ensures) ∙ tested .if4 .taken))
-    (c .before .before .refuse4 .ensures)
-
--- no value is too large
-small : (c : tie.Else4)
-    → someTooLarge (c .before .before .before .before .before .before .before .args .p) (valuesFrom (now (c .before .before .before .before .before .before .before .args .part)) 0 (c .before .before .before .before .before .before .before .args .n * c .before .before .before .before .before .before .before .args .n)) ≡ false
-small c =
-    let counted = c .before .before in
-    let start = counted .before .before .before .before .before in
-    rw (← counted .if3 .left) (sym (c .before .some-too-large .ensures) ∙ c .if4 .left)
-
-put-check-requires : tie.Need-put-check-requires
-put-check-requires c κs =
-    let right = c .before .before .before .before in
-    let start = right .before .before .before .before in
-    let n = start .args .n in (
-      start .pre,
-      order-low right,
-      right .if2 .left,
-      λ i j l m. value-small (start .args .p) (now (start .args .part)) (n * n) (i * n + j) (small (c .before)) (place-below n i j l m),
-    )
-
-same-length-5 : tie.Need-same-length-5
-same-length-5 c = search needs
-
-returns-5 : tie.Need-returns-5
-returns-5 c =
-    let tested = c .before .before .before .before in
-    let counted = tested .before .before in
-    let right = counted .before in
-    let start = right .before .before .before .before in
-    let s = now (start .args .part) in
-    let p = start .args .p in
-    let n = start .args .n in
-    rw (
-      counted .if3 .left,
-      check-accepted p n (valuesFrom s 0 (n * n)) (start .pre) (order-low right) (right .if2 .left)
-          (length-valuesFrom s 0 (n * n)) (small tested),
-      check-read p s n,
-    )
+    let s = counted .before .before .before .before .before in
+    let a = s .args in
+    replied-as
+    (ap (λ (l : List (List ℕ)). answer 0 l) (check-read (a .p) (now (a .part)) (a .n) (a .count) (counted .if2 .left))
+    ∙ after-empty [] _
+    ∙ after-left [] _ 7 _ _ (large tested)
+    ∙ after-left [] _ 6 _ _ (count counted)
+    ∙ after-left [] _ 5 _ _ (order (counted .before))
+    ∙ modulus-passed [] _ (a .p) _ (s .pre))
     (c .before .before .put-check .ensures)
 
 pub check-over-spec : {M : Type 1} → statement M
 check-over-spec =
     tie.close
     (tie.spec
+    wrong-order-requires
     refuse-requires
     same-length
     returns
+    mul-if2
     refuse-requires-2
     same-length-2
     returns-2
-    mul-if3
+    some-too-large-requires
     refuse-requires-3
     same-length-3
     returns-3
-    some-too-large-requires
-    refuse-requires-4
-    same-length-4
-    returns-4
     put-check-requires
-    same-length-5
-    returns-5)
+    same-length-4
+    returns-4)

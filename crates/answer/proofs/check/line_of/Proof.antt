@@ -1,24 +1,24 @@
 -- `answer::check::line_of` meets its contract. The loop's invariant: the values before place j are stored. Assumes nothing.
 use mathlib.Core.Path.{_≡_, refl}
-use Prim.Native.Nat.{ℕ, _+_, _-_, _≤_, _<_}
-use native.Mathlib.Nat.{not-suc-le-zero}
+use Prim.Native.Nat.{_+_, _-_, _≤_}
 use native.Mathlib.Omega.{arith}
-use lib.ListN.{length, getD, length-set}
-use denote.Ref.{now}
-use Rattle.matrix.proofs.Minors.{stored-more}
+use Rattle.algebra.specs.Matrix.{tabulate}
+use Rattle.matrix.specs.Steps.Blocks.{filled}
+use Rattle.matrix.proofs.Filled.{filled-more}
 use Rattle.text.specs.Reading.{valueAt}
 use borrow.Author.Needs.{needs}
 use Rattle.answer.proofs.check.line_of.Statement.{statement}
 use Rattle.answer.proofs.check.line_of.Tie as tie
 
 abbrev Inv-loop : tie.InvT-loop
-Inv-loop part first n line₀ j₀ line j = (j ≤ n) × (length line ≡ 8) × ((k : ℕ) → k < j → getD line k 0 ≡ valueAt part (first + k))
+Inv-loop part first n line₀ j₀ line j = (j ≤ n) × (line ≡ filled 0 (λ k. valueAt part (first + k)) j)
 
 abbrev μ-loop : tie.MeasureT-loop
 μ-loop part first n line₀ j₀ line j = n - j
 
 loop-holds : tie.Need-loop-holds Inv-loop μ-loop
-loop-holds c = (search needs, refl, λ k l. absurd (not-suc-le-zero l))
+unfolding tabulate
+loop-holds c = (search needs, refl)
 
 add-value-at : tie.Need-add-value-at Inv-loop μ-loop
 add-value-at c = search needs
@@ -42,16 +42,13 @@ loop-less c = search needs
 
 loop-again : tie.Need-loop-again Inv-loop μ-loop
 loop-again c =
-    let a = c .before .before .before .before .args in
-    let loop = c .before .before .loop in (
-      search needs,
-      simp length-set (loop .inv .1),
-      stored-more (λ k v. v ≡ valueAt (now (a .part)) (a .first + k)) (loop .line) (loop .j) (c .value-at .result) 0 (search needs) (loop .inv .2)
-          (c .value-at .ensures),
-    )
+    let loop = c .before .before .loop in
+    (search needs, filled-more 0 _ (loop .j) (loop .line) (c .value-at .result) (search needs) (loop .inv .1) (c .value-at .ensures))
 
 returns : tie.Need-returns Inv-loop μ-loop
-returns c j l = c .before .loop .inv .2 j (omega arith)
+returns c =
+    let last : c .before .loop .j ≡ c .before .before .before .args .n = omega arith in
+    rw last at (c .before .loop .inv .1)
 
 pub line-of-spec : {M : Type 1} → statement M
 line-of-spec =

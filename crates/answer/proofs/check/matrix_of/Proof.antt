@@ -1,25 +1,26 @@
 -- `answer::check::matrix_of` meets its contract. The loop's invariant: the lines before line i are stored. Assumes nothing.
 use mathlib.Core.Path.{_≡_, refl}
-use mathlib.Core.List.{[]}
-use Prim.Native.Nat.{ℕ, _+_, _-_, _*_, _≤_, _<_}
-use native.Mathlib.Nat.{not-suc-le-zero, mul-le-mul}
+use Prim.Native.Nat.{_+_, _-_, _*_, _≤_}
+use native.Mathlib.Nat.{mul-le-mul}
 use native.Mathlib.Omega.{arith}
-use lib.ListN.{length, getD, length-set}
-use denote.Ref.{now}
-use Rattle.matrix.proofs.Minors.{stored-more}
+use lib.ListN.{replicate}
+use Rattle.algebra.specs.Matrix.{tabulate}
+use Rattle.matrix.proofs.Filled.{filled-more}
 use Rattle.text.specs.Reading.{valueAt}
+use Rattle.matrix.specs.Steps.Blocks.{framed}
 use borrow.Author.Needs.{needs}
 use Rattle.answer.proofs.check.matrix_of.Statement.{statement}
 use Rattle.answer.proofs.check.matrix_of.Tie as tie
 
 abbrev Inv-loop : tie.InvT-loop
-Inv-loop part n m₀ i₀ m i = (i ≤ n) × (length m ≡ 8) × ((l : ℕ) → l < i → (j : ℕ) → j < n → getD (getD m l []) j 0 ≡ valueAt part (l * n + j))
+Inv-loop part n m₀ i₀ m i = (i ≤ n) × (m ≡ framed i n (λ l j. valueAt part (l * n + j)))
 
 abbrev μ-loop : tie.MeasureT-loop
 μ-loop part n m₀ i₀ m i = n - i
 
 loop-holds : tie.Need-loop-holds Inv-loop μ-loop
-loop-holds c = (search needs, refl, λ k l. absurd (not-suc-le-zero l))
+unfolding framed tabulate
+loop-holds c = (search needs, refl)
 
 mul-line-of : tie.Need-mul-line-of Inv-loop μ-loop
 mul-line-of c =
@@ -46,17 +47,15 @@ loop-less : tie.Need-loop-less Inv-loop μ-loop
 loop-less c = search needs
 
 loop-again : tie.Need-loop-again Inv-loop μ-loop
+unfolding framed
 loop-again c =
-    let a = c .before .before .before .before .args in
-    let loop = c .before .before .loop in (
-      search needs,
-      simp length-set (loop .inv .1),
-      stored-more (λ l v. (j : ℕ) → j < a .n → getD v j 0 ≡ valueAt (now (a .part)) (l * a .n + j)) (loop .m) (loop .i) (c .line-of .result) []
-          (search needs) (loop .inv .2) (c .line-of .ensures),
-    )
+    let loop = c .before .before .loop in
+    (search needs, filled-more (replicate 8 0) _ (loop .i) (loop .m) (c .line-of .result) (search needs) (loop .inv .1) (c .line-of .ensures))
 
 returns : tie.Need-returns Inv-loop μ-loop
-returns c i j l m = c .before .loop .inv .2 i (omega arith) j m
+returns c =
+    let last : c .before .loop .i ≡ c .before .before .before .args .n = omega arith in
+    rw last at (c .before .loop .inv .1)
 
 pub matrix-of-spec : {M : Type 1} → statement M
 matrix-of-spec =

@@ -1,25 +1,27 @@
 -- `answer::check::some_too_large` meets its contract. The loop's invariant: whether a value is too large is whether one from number i on is.
 -- Assumes nothing.
-use mathlib.Core.Path.{_≡_, sym, ap, _∙_}
+use mathlib.Core.Path.{_≡_, refl, sym, ap, _∙_}
 use Prim.Native.Nat.{_-_, _≤_}
-use native.Mathlib.Nat.{sub-zero}
+use lib.ListN.{drop}
 use denote.Ref.{now}
-use Rattle.field.specs.Outcome.{isTooLarge}
+use Rattle.field.specs.Faults.{isTooLarge}
 use Rattle.search.specs.Answer.{someTooLarge}
+use Rattle.search.proofs.Refusals.{test-none, test-found, test-next, large-none}
 use Rattle.text.specs.Reading.{valuesFrom}
-use Rattle.answer.proofs.Values.{large-found, large-goes-on, large-none}
+use Rattle.text.proofs.Lengths.{length-valuesFrom}
+use Rattle.answer.proofs.Values.{large-read}
 use borrow.Author.Needs.{needs}
 use Rattle.answer.proofs.check.some_too_large.Statement.{statement}
 use Rattle.answer.proofs.check.some_too_large.Tie as tie
 
 abbrev Inv-loop : tie.InvT-loop
-Inv-loop p part count i₀ i = (i ≤ count) × (someTooLarge p (valuesFrom part 0 count) ≡ someTooLarge p (valuesFrom part i (count - i)))
+Inv-loop p part count i₀ i = (i ≤ count) × (someTooLarge p (valuesFrom part 0 count) ≡ someTooLarge p (drop i (valuesFrom part 0 count)))
 
 abbrev μ-loop : tie.MeasureT-loop
 μ-loop p part count i₀ i = count - i
 
 loop-holds : tie.Need-loop-holds Inv-loop μ-loop
-loop-holds c = (search needs, rw sub-zero)
+loop-holds c = (search needs, refl)
 
 value-at-requires : tie.Need-value-at-requires Inv-loop μ-loop
 value-at-requires c κs = search needs
@@ -32,7 +34,7 @@ returns c =
     let at-loop = c .before .before .before .before in
     let a = at-loop .before .before .args in
     let test = ap (isTooLarge (a .p)) (sym (c .before .before .value-at .ensures)) ∙ sym (c .before .too-large .ensures) ∙ c .if1 .taken in
-    sym (at-loop .loop .inv .1 ∙ large-found (a .p) (now (a .part)) (at-loop .loop .i) (a .count) (search needs) test)
+    test-found (someTooLarge (a .p)) (large-none (a .p)) _ (at-loop .loop .i) (at-loop .loop .inv .1) _ (large-read (a .p) (now (a .part)) (a .count) (at-loop .loop .i) (search needs)) test
 
 add-i : tie.Need-add-i Inv-loop μ-loop
 add-i c = search needs
@@ -44,13 +46,16 @@ loop-again : tie.Need-loop-again Inv-loop μ-loop
 loop-again c =
     let at-loop = c .before .before .before .before in
     let a = at-loop .before .before .args in
-    let test = ap (isTooLarge (a .p)) (sym (c .before .before .value-at .ensures)) ∙ sym (c .before .too-large .ensures) ∙ c .if1 .left in
-    (search needs, at-loop .loop .inv .1 ∙ large-goes-on (a .p) (now (a .part)) (at-loop .loop .i) (a .count) (search needs) test)
+    let test = ap (isTooLarge (a .p)) (sym (c .before .before .value-at .ensures)) ∙ sym (c .before .too-large .ensures) ∙ c .if1 .left in (
+      search needs,
+      test-next (someTooLarge (a .p)) (large-none (a .p)) _ (at-loop .loop .i) (at-loop .loop .inv .1) _ (large-read (a .p) (now (a .part)) (a .count) (at-loop .loop .i) (search needs)) test,
+    )
 
 returns-2 : tie.Need-returns-2 Inv-loop μ-loop
 returns-2 c =
     let a = c .before .before .before .args in
-    sym (c .before .loop .inv .1 ∙ large-none (a .p) (now (a .part)) (c .before .loop .i) (a .count) (c .loop-test .left))
+    test-none (someTooLarge (a .p)) (large-none (a .p)) _ (c .before .loop .i) (c .before .loop .inv .1)
+    (rw (length-valuesFrom (now (a .part)) 0 (a .count)) (c .loop-test .left))
 
 pub some-too-large-spec : {M : Type 1} → statement M
 some-too-large-spec =

@@ -1,11 +1,15 @@
 -- `answer::row::put_row` meets its contract: the counts follow from the sum of the element counts. Assumes nothing.
-use mathlib.Core.Path.{refl, sym, ap}
+use mathlib.Core.Path.{sym, ap, _∙_}
 use Prim.Native.Nat.{ℕ, _+_, _-_, _*_, _≤_}
 use native.Mathlib.Nat.{mul-le-mul}
 use native.Mathlib.Omega.{arith}
-use lib.ListN.{getD}
+use mathlib.Core.List.{List, [], _∷_}
+use lib.ListN.{getD, take}
 use lib.Seq.{length-take-le}
 use Rattle.field.proofs.Degrees.{polynomial}
+use Rattle.refusal.specs.Refusals.{answer}
+use Rattle.search.specs.Answer.{sumOf}
+use Rattle.answer.proofs.Replies.{replied-as}
 use Rattle.answer.proofs.Found.{row-lines, sum-le, six-row, six-take}
 use borrow.Author.Needs.{needs}
 use Rattle.answer.proofs.row.put_row.Statement.{statement}
@@ -25,9 +29,10 @@ cast-count c = search needs
 
 -- the sum and the counts are small
 sum-small : (c : tie.After-degree) → c .before .before .args .sum ≤ 448
+unfolding sumOf
 sum-small c =
     let start = c .before .before in
-    sum-le (start .args .p) (start .args .n) (start .args .sum) (λ j. getD (start .args .row) j 0) (start .pre .0) (start .pre .2) (start .pre .3)
+    sum-le (start .args .p) (start .args .n) (start .args .sum) (λ j. getD (take (start .args .n) (start .args .row)) j 0) (start .pre .0) (start .pre .2) (start .pre .3)
 
 products : (c : tie.After-degree) → (c .before .before .args .n - 1) * c .degree .result ≤ 56
 products c =
@@ -84,10 +89,10 @@ returns c =
     let a = start .args in
     let d = found .before .degree in
     let count : ℕ = a .sum + (a .n - 1) * d .result in
-    rw (
-      row-lines (a .p) (a .n) (a .sum) count (a .n * count) (a .row) (start .pre .3) (ap (λ (x : ℕ). a .sum + (a .n - 1) * x) (d .ensures)) refl,
-      ← found .widened .ensures .0,
-    )
+    replied-as
+    (ap (λ (l : List ℕ). answer 0 ((0 ∷ a .sum ∷ count ∷ a .n * count ∷ []) ∷ take (a .n) l ∷ [])) (found .widened .ensures .0)
+    ∙ ap (λ (l : List (List ℕ)). answer 0 l)
+    (row-lines (a .p) (a .n) (a .sum) count (take (a .n) (a .row)) (start .pre .3) (ap (λ (x : ℕ). a .sum + (a .n - 1) * x) (d .ensures))))
     (c .before .before .put-answers .ensures)
 
 pub put-row-spec : {M : Type 1} → statement M

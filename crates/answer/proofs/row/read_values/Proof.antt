@@ -2,7 +2,8 @@
 use mathlib.Core.Path.{_≡_, refl}
 use Prim.Native.Nat.{_-_, _≤_}
 use native.Mathlib.Omega.{arith}
-use lib.ListN.{length, take, length-set}
+use mathlib.Core.List.{_++_}
+use lib.ListN.{replicate}
 use denote.Ref.{now}
 use Rattle.text.specs.Reading.{valuesFrom}
 use Rattle.answer.proofs.Found.{values-stored}
@@ -11,14 +12,14 @@ use Rattle.answer.proofs.row.read_values.Statement.{statement}
 use Rattle.answer.proofs.row.read_values.Tie as tie
 
 abbrev Inv-loop : tie.InvT-loop
-Inv-loop part count values₀ i₀ values i = (i ≤ count) × (length values ≡ 256) × (take i values ≡ valuesFrom part 0 i)
+Inv-loop part count values₀ i₀ values i = (i ≤ count) × (values ≡ valuesFrom part 0 i ++ replicate (256 - i) 0)
 
 abbrev μ-loop : tie.MeasureT-loop
 μ-loop part count values₀ i₀ values i = count - i
 
 loop-holds : tie.Need-loop-holds Inv-loop μ-loop
 unfolding valuesFrom
-loop-holds c = (search needs, refl, refl)
+loop-holds c = (search needs, refl)
 
 value-at-requires : tie.Need-value-at-requires Inv-loop μ-loop
 value-at-requires c κs = search needs
@@ -39,13 +40,13 @@ loop-again : tie.Need-loop-again Inv-loop μ-loop
 loop-again c =
     let a = c .before .before .before .before .args in
     let loop = c .before .before .loop in
-    (search needs, simp length-set (loop .inv .1), values-stored (now (a .part)) (loop .i) (loop .values) _ (search needs) (loop .inv .2) (c .value-at .ensures))
+    (search needs, values-stored (now (a .part)) (loop .i) (loop .values) _ (search needs) (loop .inv .1) (c .value-at .ensures))
 
 returns : tie.Need-returns Inv-loop μ-loop
 returns c =
     let a = c .before .before .before .args in
     let all : c .before .loop .i ≡ a .count = omega arith in
-    rw (← all) (c .before .loop .inv .2)
+    rw all at (c .before .loop .inv .1)
 
 pub read-values-spec : {M : Type 1} → statement M
 read-values-spec =

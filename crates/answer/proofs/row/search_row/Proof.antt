@@ -1,15 +1,19 @@
--- `answer::row::search_row` meets its contract: what the search answers of the values that are kept is what it answers of all.
--- Assumes nothing.
+-- `answer::row::search_row` meets its contract: what is due to the values that are kept is due to all. Assumes nothing.
 use mathlib.Core.Path.{_≡_, sym, ap, _∙_}
-use native.Mathlib.Nat.{lt-of-le-of-lt}
-use lib.Dec.{lit<}
-use lib.Seq.{length-take-le}
+use mathlib.Core.List.{List}
+use Prim.Native.Nat.{ℕ, min}
+use lib.ListN.{take}
+use lib.Seq.{length-take-le, take-at}
 use denote.Ref.{now}
-use Rattle.field.specs.declared.Outcome.{Outcome}
+use Rattle.refusal.specs.declared.Outcome.{Outcome}
+use Rattle.refusal.specs.declared.Outcome.the-variants.{Value}
+use Rattle.field.proofs.Calls.{modulus-fits}
 use Rattle.search.specs.Answer.{searchAnswer}
-use Rattle.search.specs.Kept.{saysOutcome, saysSearch}
+use Rattle.search.specs.Answer.{saysOutcome, saysSearch}
 use Rattle.text.specs.Reading.{valuesFrom}
-use Rattle.answer.proofs.Found.{Accepted, search-kept, search-refused, search-accepted, search-found}
+use Rattle.text.proofs.Lengths.{length-valuesFrom}
+use Rattle.answer.proofs.Replies.{replied-as}
+use Rattle.answer.proofs.Found.{search-kept, search-refused, search-passed, sum-told, search-told}
 use borrow.Author.Needs.{needs}
 use Rattle.answer.proofs.row.search_row.Statement.{statement}
 use Rattle.answer.proofs.row.search_row.Tie as tie
@@ -29,24 +33,25 @@ slice-aggregate-search c = sym (length-take-le _ _ (array-share-prefix-values (c
 search-requires : tie.Need-search-requires
 search-requires c κs = search needs
 
--- what the search answers is what is asked
-asked : (c : tie.After-search)
-    → saysSearch (c .search .result)
-    ≡ searchAnswer (c .before .before .before .before .before .before .args .p) (c .before .before .before .before .before .before .args .n)
-    (valuesFrom (now (c .before .before .before .before .before .before .args .part)) 0 (c .before .before .before .before .before .before .args .count))
-asked c =
+-- the values that are kept
+abbrev kept : tie.Start → List ℕ
+kept s = valuesFrom (now (s .args .part)) 0 (min (s .args .count) 256)
+
+-- what the search says of them
+said : (c : tie.After-search) → let s = c .before .before .before .before .before .before in saysSearch (c .search .result) ≡ searchAnswer (s .args .p) (s .args .n) (kept s)
+said c =
     let read = c .before .before in
-    let a = read .before .before .before .before .args in
-    let s = now (a .part) in
+    let s = read .before .before .before .before in
+    let part = now (s .args .part) in
+    let size = read .before .at-most .result in
     c .search .ensures
-    ∙ ap (searchAnswer (a .p) (a .n)) (read .read-values .ensures ∙ ap (valuesFrom s 0) (read .before .at-most .ensures))
-    ∙ search-kept (a .p) (a .n) s (a .count)
+    ∙ ap (searchAnswer (s .args .p) (s .args .n))
+    (ap (take size) (read .read-values .ensures)
+    ∙ take-at (valuesFrom part 0 size) _ size (length-valuesFrom part 0 size)
+    ∙ ap (valuesFrom part 0) (read .before .at-most .ensures))
 
 enum-known-outcome : tie.Need-enum-known-outcome
 enum-known-outcome c = search needs
-
-number-of-requires : tie.Need-number-of-requires
-number-of-requires c κs = search needs
 
 refuse-requires : tie.Need-refuse-requires
 refuse-requires c κs = search needs
@@ -56,28 +61,20 @@ enum-known-outcome-2 c = search needs
 
 -- a row is found
 told : (c : tie.After-outcome2)
-    → record { number = 0; sum = c .outcome2 .given .0 .0; row = c .before .before .before .search .result .row }
-    ≡ searchAnswer (c .before .before .before .before .before .before .before .before .before .args .p)
-    (c .before .before .before .before .before .before .before .before .before .args .n)
-    (valuesFrom (now (c .before .before .before .before .before .before .before .before .before .args .part)) 0
-    (c .before .before .before .before .before .before .before .before .before .args .count))
+    → let s = c .before .before .before .before .before .before .before .before .before in
+    saysOutcome (Value (c .outcome2 .given .0 .0)) (c .before .before .before .search .result .row) ≡ searchAnswer (s .args .p) (s .args .n) (kept s)
 told c =
     let searched = c .before .before .before in
-    ap (λ (o : Outcome). saysOutcome o (searched .search .result .row)) (sym (c .outcome2 .given .1)) ∙ asked searched
-
-accepted : (c : tie.After-outcome2)
-    → Accepted (c .before .before .before .before .before .before .before .before .before .args .p)
-    (c .before .before .before .before .before .before .before .before .before .args .n)
-    (c .outcome2 .given .0 .0) (c .before .before .before .search .result .row)
-accepted c = search-found _ _ _ _ _ (told c)
+    ap (λ (o : Outcome). saysOutcome o (searched .search .result .row)) (sym (c .outcome2 .given .1)) ∙ said searched
 
 cast-put-row : tie.Need-cast-put-row
-cast-put-row c = record { fits = lt-of-le-of-lt (accepted (c .before .before) .modulus .high) (lit< tt) }
+cast-put-row c = record { fits = modulus-fits (search-passed _ _ _ _ _ (told (c .before .before)) .modulus) }
 
 put-row-requires : tie.Need-put-row-requires
 put-row-requires c κs =
-    let a = accepted (c .before .before) in
-    (a .modulus, a .low, a .high, a .counted)
+    let t = told (c .before .before) in
+    let a = search-passed _ _ _ _ _ t in
+    (a .modulus, a .low, a .high, sum-told _ _ _ _ _ t)
 
 same-length : tie.Need-same-length
 same-length c = search needs
@@ -85,12 +82,14 @@ same-length c = search needs
 returns : tie.Need-returns
 returns c =
     let called = c .before .before in
-    let refused = called .before .before .before .before in
+    let refused = called .before .before .before in
     let searched = refused .before .before .before in
-    let a = searched .before .before .before .before .before .before .args in
-    rw (search-refused (a .p) (a .n) (valuesFrom (now (a .part)) 0 (a .count)) (refused .outcome .given .0 .0) (searched .search .result .row)
-    (ap (λ (o : Outcome). saysOutcome o (searched .search .result .row)) (sym (refused .outcome .given .1)) ∙ asked searched))
-    (rw (called .before .number-of .ensures .0) at (called .refuse .ensures))
+    let s = searched .before .before .before .before .before .before in
+    replied-as
+    (search-refused (s .args .p) (s .args .n) (kept s) (refused .outcome .given .0 .0) (searched .search .result .row)
+    (ap (λ (o : Outcome). saysOutcome o (searched .search .result .row)) (sym (refused .outcome .given .1)) ∙ said searched)
+    ∙ search-kept (s .args .p) (s .args .n) (now (s .args .part)) (s .args .count))
+    (called .refuse .ensures)
 
 same-length-2 : tie.Need-same-length-2
 same-length-2 c = search needs
@@ -99,8 +98,9 @@ returns-2 : tie.Need-returns-2
 returns-2 c =
     let called = c .before .before in
     let known = called .before .before .before in
-    let a = known .before .before .before .before .before .before .before .before .before .args in
-    rw (search-accepted (a .p) (a .n) (valuesFrom (now (a .part)) 0 (a .count)) (known .outcome2 .given .0 .0) (known .before .before .before .search .result .row) (told known))
+    let s = known .before .before .before .before .before .before .before .before .before in
+    replied-as
+    (search-told _ _ _ _ _ (told known) ∙ search-kept (s .args .p) (s .args .n) (now (s .args .part)) (s .args .count))
     (called .put-row .ensures)
 
 pub search-row-spec : {M : Type 1} → statement M
@@ -113,7 +113,6 @@ search-row-spec =
     slice-aggregate-search
     search-requires
     enum-known-outcome
-    number-of-requires
     refuse-requires
     enum-known-outcome-2
     cast-put-row

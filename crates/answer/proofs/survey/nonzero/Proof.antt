@@ -6,7 +6,8 @@ use native.Mathlib.Omega.{arith}
 use lib.Dec.{lit<}
 use Rattle.field.specs.Polynomial.{degree}
 use Rattle.field.proofs.Degrees.{polynomial}
-use Rattle.answer.proofs.Surveys.{size-low, size-high}
+use Rattle.field.proofs.Calls.{elements-most}
+use Rattle.answer.proofs.Surveys.{size-low}
 use borrow.Author.Needs.{needs}
 use Rattle.answer.proofs.survey.nonzero.Statement.{statement}
 use Rattle.answer.proofs.survey.nonzero.Tie as tie
@@ -26,7 +27,7 @@ shifted c =
     let p = c .before .args .p in
     ap (λ (n : ℕ). 1 * 2 ^ n % 2 ^ 64) (c .degree .ensures)
     ∙ ap (λ (n : ℕ). n % 2 ^ 64) (one-mul (2 ^ degree p))
-    ∙ mod-eq-of-lt (lt-of-le-of-lt (size-high p (c .before .pre)) (lit< tt))
+    ∙ mod-eq-of-lt (lt-of-le-of-lt (elements-most p (c .before .pre)) (lit< tt))
 
 sub-result : tie.Need-sub-result
 sub-result c = omega (arith, shifted c, size-low (c .before .args .p) (c .before .pre))

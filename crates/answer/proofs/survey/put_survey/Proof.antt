@@ -10,7 +10,7 @@ use Rattle.text.proofs.Form.{six-none, six-more}
 use Rattle.text.proofs.Lengths.{length-line}
 use Rattle.text.proofs.Places.{put-join, put-long}
 use Rattle.answer.specs.Due.{surveyLines}
-use Rattle.answer.specs.Replied.{linesFrom}
+use Rattle.answer.specs.Steps.Replied.{linesFrom}
 use Rattle.answer.proofs.Surveys.{starts-rise, start-most, survey-text, survey-length}
 use Rattle.answer.proofs.Replies.{lines-written, lines-short}
 use borrow.Author.Needs.{needs}
@@ -58,8 +58,11 @@ mul-if1 c = omega (arith, high c)
 add-if1 : tie.Need-add-if1
 add-if1 c = omega (arith, high c)
 
+too-short-requires : tie.Need-too-short-requires
+too-short-requires c κs = search needs
+
 returns : tie.Need-returns
-returns c = lines-short (surveyLines (c .before .before .before .before .args .m)) _ (omega (arith, size (c .before)))
+returns c = lines-short (surveyLines (c .before .before .before .before .before .args .m)) _ (c .too-short .ensures) (omega (arith, size (c .before .before)))
 
 cast-t15 : tie.Need-cast-t15
 cast-t15 c = omega (arith, high (c .before .before))
@@ -103,6 +106,7 @@ put-survey-spec =
     sub-count
     mul-if1
     add-if1
+    too-short-requires
     returns
     cast-t15
     slice-aggregate-put-line

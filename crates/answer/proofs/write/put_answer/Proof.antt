@@ -14,10 +14,13 @@ mul-if1 c = search needs
 add-if1 : tie.Need-add-if1
 add-if1 c = search needs
 
+too-short-requires : tie.Need-too-short-requires
+too-short-requires c κs = search needs
+
 returns : tie.Need-returns
 returns c =
-    let a = now (c .before .before .before .args .numbers) in
-    lines-short (a ∷ []) _ (omega (arith, one-length a))
+    let a = now (c .before .before .before .before .args .numbers) in
+    lines-short (a ∷ []) _ (c .too-short .ensures) (omega (arith, one-length a))
 
 put-line-requires : tie.Need-put-line-requires
 put-line-requires c κs = search needs
@@ -32,4 +35,4 @@ returns-2 c =
 
 pub put-answer-spec : {M : Type 1} → statement M
 put-answer-spec =
-    tie.close (tie.spec mul-if1 add-if1 returns put-line-requires same-length returns-2)
+    tie.close (tie.spec mul-if1 add-if1 too-short-requires returns put-line-requires same-length returns-2)

@@ -22,12 +22,15 @@ add-if1 c = search needs
 add-if1-2 : tie.Need-add-if1-2
 add-if1-2 c = search needs
 
+too-short-requires : tie.Need-too-short-requires
+too-short-requires c κs = search needs
+
 returns : tie.Need-returns
 returns c =
-    let start = c .before .before .before .before in
+    let start = c .before .before .before .before .before in
     let a = now (start .args .numbers) in
     let b = now (start .args .row) in
-    lines-short (a ∷ b ∷ []) _ (omega (arith, two-length a b))
+    lines-short (a ∷ b ∷ []) _ (c .too-short .ensures) (omega (arith, two-length a b))
 
 put-line-requires : tie.Need-put-line-requires
 put-line-requires c κs = search needs
@@ -59,6 +62,7 @@ put-answers-spec =
     mul-if1-2
     add-if1
     add-if1-2
+    too-short-requires
     returns
     put-line-requires
     put-line-requires-2

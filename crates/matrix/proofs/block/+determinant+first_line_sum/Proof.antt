@@ -3,8 +3,10 @@ use mathlib.Core.Path.{_≡_, sym, ap, _∙_}
 use Prim.Native.Nat.{ℕ, _+_, _-_, _≤_, _<_, zero-le}
 use native.Mathlib.Nat.{pos-of-ne-zero}
 use native.Mathlib.Omega.{arith}
-use Rattle.algebra.specs.Matrix.{det}
-use Rattle.matrix.specs.Numbers.{numbers, entry, InField}
+use Rattle.algebra.specs.Matrix.{without, det}
+use Rattle.matrix.specs.Numbers.{numbers, entry}
+use Rattle.matrix.specs.Steps.Conditions.{InField}
+use Rattle.matrix.proofs.Filled.{entry-of}
 use Rattle.matrix.proofs.Minors.{firstLine, first-line-none, first-line-more, first-line-all, det-none, det-single, minor-in-field}
 use borrow.Author.Needs.{needs}
 use borrow.Fn.Kinds.{In}
@@ -146,7 +148,7 @@ line-loop-again t c =
       omega (arith, c .before .before .before .before .loop-test .taken),
       first-line-more p (n - 1) (entry block) (entry (left .result)) j r (minor .result) (c .product .result)
           (c .before .before .before .before .before .loop .inv .1) (minor .ensures)
-          (λ i k l m. left .ensures i k (omega arith) (omega (arith, pre .2))) (c .product .ensures),
+          (λ i k l m. entry-of (n - 1) 7 (without (entry block) j) (left .result) (left .ensures) i k l (omega (arith, pre .2))) (c .product .ensures),
     )
 
 line-returns : (t : ℕ) → line-lts.Need-returns (line-given t) (line-at t) line.Post line-Inv-loop line-μ-loop

@@ -1,29 +1,31 @@
 -- `matrix::block::chosen_columns` meets its contract: the lines before i are in place. Assumes nothing.
-use mathlib.Core.Path.{_≡_, _∙_}
-use mathlib.Core.List.{List, []}
-use Prim.Native.Nat.{ℕ, _-_, _≤_, _<_, zero-le}
+use mathlib.Core.Path.{_≡_, refl}
+use mathlib.Core.List.{List}
+use Prim.Native.Nat.{ℕ, _-_, _≤_, zero-le}
 use native.Mathlib.Omega.{arith}
-use borrow.Author.Count.{below-none}
-use lib.ListN.{length, getD, length-set}
-use Rattle.algebra.specs.Matrix.{chosen}
+use lib.ListN.{length, getD, replicate}
+use Rattle.algebra.specs.Matrix.{tabulate}
+use Rattle.algebra.specs.Steps.{chosen}
 use Rattle.matrix.specs.Numbers.{entry}
-use Rattle.matrix.proofs.Minors.{stored-more}
+use Rattle.matrix.specs.Steps.Blocks.{filled, framed}
+use Rattle.matrix.proofs.Filled.{filled-more}
 use borrow.Author.Needs.{needs}
 use Rattle.matrix.proofs.block.chosen_columns.Statement.{statement}
 use Rattle.matrix.proofs.block.chosen_columns.Tie as tie
 
--- l has the chosen columns of line a
-abbrev LineOf : List (List ℕ) → ℕ → ℕ → List ℕ → Type 0
-LineOf m columns a l = (j : ℕ) → j < length (chosen 8 columns) → getD l j 0 ≡ entry m a (getD (chosen 8 columns) j 0)
+-- the chosen columns of line i
+abbrev line : List (List ℕ) → ℕ → ℕ → List ℕ
+line m columns i = filled 0 (λ j. entry m i (getD (chosen 8 columns) j 0)) (length (chosen 8 columns))
 
 abbrev Inv-loop : tie.InvT-loop
-Inv-loop n columns m r₀ i₀ r i = (i ≤ n) × (length r ≡ 8) × ((a : ℕ) → a < i → LineOf m columns a (getD r a []))
+Inv-loop n columns m r₀ i₀ r i = (i ≤ n) × (r ≡ filled (replicate 8 0) (line m columns) i)
 
 abbrev μ-loop : tie.MeasureT-loop
 μ-loop n columns m r₀ i₀ r i = n - i
 
 loop-holds : tie.Need-loop-holds Inv-loop μ-loop
-loop-holds c = (zero-le, search needs, below-none (λ a. _))
+unfolding tabulate
+loop-holds c = (zero-le, refl)
 
 mul-chosen-line : tie.Need-mul-chosen-line Inv-loop μ-loop
 mul-chosen-line c = search needs
@@ -48,18 +50,17 @@ loop-less c = search needs
 
 loop-again : tie.Need-loop-again Inv-loop μ-loop
 loop-again c =
-    let r = c .before .before .before .loop .r in
-    let i = c .before .before .before .loop .i in
-    let line = c .chosen-line .result in
-    let inv = c .before .before .before .loop .inv in (
+    let args = c .before .before .before .before .args in
+    let loop = c .before .before .before .loop in (
       omega (arith, c .before .before .loop-test .taken),
-      length-set r i line ∙ inv .1,
-      stored-more (LineOf (c .before .before .before .before .args .t1) (c .before .before .before .before .args .columns)) r i line [] (omega arith) (inv .2)
-          (c .chosen-line .ensures),
+      filled-more (replicate 8 0) (line (args .t1) (args .columns)) (loop .i) (loop .r) (c .chosen-line .result) (omega arith) (loop .inv .1) (c .chosen-line .ensures),
     )
 
 returns : tie.Need-returns Inv-loop μ-loop
-returns c = λ i j l h. c .before .loop .inv .2 i (omega arith) j h
+unfolding framed
+returns c =
+    let last : c .before .loop .i ≡ c .before .before .args .n = omega arith in
+    rw last at (c .before .loop .inv .1)
 
 pub chosen-columns-spec : {M : Type 1} → statement M
 chosen-columns-spec =

@@ -7,18 +7,18 @@ use Rattle.matrix.proofs.block.chosen_line.Statement.{statement}
 use Rattle.matrix.proofs.block.chosen_line.Tie as tie
 
 abbrev Inv-loop : tie.InvT-loop
-Inv-loop columns line r₀ rest₀ i₀ k₀ r rest i k = Walk line 0 columns r rest i k
+Inv-loop columns line r₀ rest₀ i₀ k₀ r rest i k = Walk line 0 0 columns r rest i k
 
 abbrev μ-loop : tie.MeasureT-loop
 μ-loop columns line r₀ rest₀ i₀ k₀ r rest i k = rest
 
 loop-holds : tie.Need-loop-holds Inv-loop μ-loop
-loop-holds c = walk-begins (c .args .t1) 0 (c .args .columns) (c .args .t1) (c .pre) (search needs)
+loop-holds c = walk-begins (c .args .t1) 0 0 (c .args .columns) (c .pre)
 
 -- in a turn a one is left
 inside : (c : tie.In-loop Inv-loop μ-loop) → Inside (c .before .loop .rest) (c .before .loop .i) (c .before .loop .k)
 inside c =
-    walk-inside (c .before .before .args .t1) 0 (c .before .before .args .columns) (c .before .loop .r) (c .before .loop .rest) (c .before .loop .i) (c .before .loop .k) (c .before .loop .inv)
+    walk-inside (c .before .before .args .t1) 0 0 (c .before .before .args .columns) (c .before .loop .r) (c .before .loop .rest) (c .before .loop .i) (c .before .loop .k) (c .before .loop .inv)
     (c .loop-test .taken)
 
 array-read-r : tie.Need-array-read-r Inv-loop μ-loop
@@ -42,12 +42,12 @@ loop-less c = omega (arith, pos-of-ne-zero (c .loop-test .taken))
 loop-again : tie.Need-loop-again Inv-loop μ-loop
 loop-again c =
     let now = c .before .loop in
-    walk-goes-on (c .before .before .args .t1) 0 (c .before .before .args .columns) (now .r) (now .rest) (now .i) (now .k) (now .inv) (c .loop-test .taken)
+    walk-goes-on (c .before .before .args .t1) 0 0 (c .before .before .args .columns) (now .r) (now .rest) (now .i) (now .k) (now .inv) (c .loop-test .taken)
 
 returns : tie.Need-returns Inv-loop μ-loop
 returns c =
     let now = c .before .loop in
-    walk-ends (c .before .before .args .t1) 0 (c .before .before .args .columns) (now .r) (now .rest) (now .i) (now .k) (now .inv) (c .loop-test .left)
+    walk-ends (c .before .before .args .t1) 0 0 (c .before .before .args .columns) (now .r) (now .rest) (now .i) (now .k) (now .inv) (c .loop-test .left)
 
 pub chosen-line-spec : {M : Type 1} → statement M
 chosen-line-spec =

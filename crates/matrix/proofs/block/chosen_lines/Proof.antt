@@ -1,5 +1,6 @@
 -- `matrix::block::chosen_lines` meets its contract: the chosen lines before place i are stored. Assumes nothing.
 use mathlib.Core.List.{[]}
+use lib.ListN.{replicate}
 use native.Mathlib.Nat.{pos-of-ne-zero}
 use native.Mathlib.Omega.{arith}
 use Rattle.matrix.proofs.Selections.{Walk, walk-begins, walk-inside, walk-goes-on, walk-ends, Inside}
@@ -8,18 +9,18 @@ use Rattle.matrix.proofs.block.chosen_lines.Statement.{statement}
 use Rattle.matrix.proofs.block.chosen_lines.Tie as tie
 
 abbrev Inv-loop : tie.InvT-loop
-Inv-loop lines m r₀ rest₀ i₀ k₀ r rest i k = Walk m [] lines r rest i k
+Inv-loop lines m r₀ rest₀ i₀ k₀ r rest i k = Walk m [] (replicate 8 0) lines r rest i k
 
 abbrev μ-loop : tie.MeasureT-loop
 μ-loop lines m r₀ rest₀ i₀ k₀ r rest i k = rest
 
 loop-holds : tie.Need-loop-holds Inv-loop μ-loop
-loop-holds c = walk-begins (c .args .t1) [] (c .args .lines) (c .args .t1) (c .pre) (search needs)
+loop-holds c = walk-begins (c .args .t1) [] (replicate 8 0) (c .args .lines) (c .pre)
 
 -- in a turn a one is left
 inside : (c : tie.In-loop Inv-loop μ-loop) → Inside (c .before .loop .rest) (c .before .loop .i) (c .before .loop .k)
 inside c =
-    walk-inside (c .before .before .args .t1) [] (c .before .before .args .lines) (c .before .loop .r) (c .before .loop .rest) (c .before .loop .i) (c .before .loop .k) (c .before .loop .inv)
+    walk-inside (c .before .before .args .t1) [] (replicate 8 0) (c .before .before .args .lines) (c .before .loop .r) (c .before .loop .rest) (c .before .loop .i) (c .before .loop .k) (c .before .loop .inv)
     (c .loop-test .taken)
 
 mul-line : tie.Need-mul-line Inv-loop μ-loop
@@ -49,12 +50,12 @@ loop-less c = omega (arith, pos-of-ne-zero (c .before .loop-test .taken))
 loop-again : tie.Need-loop-again Inv-loop μ-loop
 loop-again c =
     let now = c .before .before .loop in
-    walk-goes-on (c .before .before .before .args .t1) [] (c .before .before .before .args .lines) (now .r) (now .rest) (now .i) (now .k) (now .inv) (c .before .loop-test .taken)
+    walk-goes-on (c .before .before .before .args .t1) [] (replicate 8 0) (c .before .before .before .args .lines) (now .r) (now .rest) (now .i) (now .k) (now .inv) (c .before .loop-test .taken)
 
 returns : tie.Need-returns Inv-loop μ-loop
 returns c =
     let now = c .before .loop in
-    walk-ends (c .before .before .args .t1) [] (c .before .before .args .lines) (now .r) (now .rest) (now .i) (now .k) (now .inv) (c .loop-test .left)
+    walk-ends (c .before .before .args .t1) [] (replicate 8 0) (c .before .before .args .lines) (now .r) (now .rest) (now .i) (now .k) (now .inv) (c .loop-test .left)
 
 pub chosen-lines-spec : {M : Type 1} → statement M
 chosen-lines-spec =

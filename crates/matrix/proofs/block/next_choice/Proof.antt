@@ -23,7 +23,8 @@ cast-if1 c = omega (arith, ones-le 8 (c .before .loop .r) (lt-of-lt-of-le (c .lo
 returns : tie.Need-returns Inv-loop μ-loop
 returns c =
     let a = c .before .before .before .args in
-    next-choice (a .from) (a .step) (a .end) (a .k) (c .before .before .loop .r) (c .before .before .loop .inv) (λ _. c .if1 .taken)
+    let pre = c .before .before .before .pre in
+    next-choice (a .from) (a .step) (a .end) (a .k) (c .before .before .loop .r) (pre .0) (pre .1) (c .before .before .loop .inv) (λ _. c .if1 .taken)
 
 add-r : tie.Need-add-r Inv-loop μ-loop
 add-r c = search needs
@@ -34,13 +35,13 @@ loop-less c = omega arith
 loop-again : tie.Need-loop-again Inv-loop μ-loop
 loop-again c =
     let a = c .before .before .before .args in
-    let pre = c .before .before .before .pre in
-    skipped-more (a .from) (a .step) (a .end) (a .k) (c .before .before .loop .r) (pre .0) (pre .1) (c .before .before .loop .inv) (c .before .loop-test .taken) (c .if1 .left)
+    skipped-more (a .from) (a .step) (a .end) (a .k) (c .before .before .loop .r) (c .before .before .loop .inv) (c .before .loop-test .taken) (c .if1 .left)
 
 returns-2 : tie.Need-returns-2 Inv-loop μ-loop
 returns-2 c =
     let a = c .before .before .args in
-    next-choice (a .from) (a .step) (a .end) (a .k) (c .before .loop .r) (c .before .loop .inv) (λ l. absurd (not-le-of-lt l (c .loop-test .left)))
+    let pre = c .before .before .pre in
+    next-choice (a .from) (a .step) (a .end) (a .k) (c .before .loop .r) (pre .0) (pre .1) (c .before .loop .inv) (λ l. absurd (not-le-of-lt l (c .loop-test .left)))
 
 pub next-choice-spec : {M : Type 1} → statement M
 next-choice-spec =

@@ -8,11 +8,13 @@ use native.Mathlib.Nat.{le-refl, lt-of-lt-of-le}
 use native.Mathlib.Omega.{arith}
 use borrow.Author.Tests.{le-leb, lt-leb}
 use lib.Count.{ones}
-use Rattle.algebra.specs.Matrix.{det, chosen, block}
+use Rattle.algebra.specs.Matrix.{det}
+use Rattle.algebra.specs.Steps.{chosen, block}
 use Rattle.matrix.specs.Numbers.{numbers, entry}
-use Rattle.matrix.specs.Regular.{regularOfSize}
+use Rattle.matrix.specs.Steps.Regular.{regularOfSize}
 use Rattle.matrix.proofs.Regularity.{Passed, passed-none, passed-more, Regular, RegularLines, other-columns, block-regular, block-singular}
-use Rattle.matrix.proofs.Regularity.{lines-others, lines-passed, all-passed, one-singular, square-in-field, square-det, endOf, end-is, end-most, end-choice}
+use Rattle.matrix.proofs.Regularity.{lines-others, lines-passed, all-passed, one-singular, square-in-field, square-det, endOf, end-most, end-choice, choice-begins}
+use Rattle.matrix.proofs.Selections.{shifted}
 use Rattle.matrix.proofs.block.regular_of_size.Statement.{statement}
 use Rattle.matrix.proofs.block.regular_of_size.Tie as tie
 
@@ -31,13 +33,13 @@ abbrev μ-choices : tie.MeasureT-choices
 -- the end of the masks is 2^n
 module _ (n : ℕ) (h : n ≤ 8) where
   most : endOf n ≤ 256
-  most = omega (arith, end-is n h, end-most n h)
+  most = omega (arith, shifted n h, end-most n h)
 
   below : (x : ℕ) → x < endOf n → x < 2 ^ n
-  below x l = omega (arith, end-is n h)
+  below x l = omega (arith, shifted n h)
 
   past : (x : ℕ) → endOf n ≤ x → 2 ^ n ≤ x
-  past x l = omega (arith, end-is n h)
+  past x l = omega (arith, shifted n h)
 
 cast-end : tie.Need-cast-end Inv-loop μ-loop Inv-choices μ-choices
 cast-end c = omega arith
@@ -52,7 +54,7 @@ choices-holds : tie.Need-choices-holds Inv-loop μ-loop Inv-choices μ-choices
 choices-holds c =
     let a = c .before .args in
     let pre = c .before .pre in
-    passed-none 1 (2 ^ a .n) (a .k) (RegularLines (a .p) (a .n) (a .k) (entry (a .m)) (a .step)) (lines-others (a .p) (a .n) (a .k) (entry (a .m)) (a .step)) (c .next-choice .result) (pre .2)
+    passed-none 1 (2 ^ a .n) (a .k) (RegularLines (a .p) (a .n) (a .k) (entry (a .m)) (a .step)) (lines-others (a .p) (a .n) (a .k) (entry (a .m)) (a .step)) (le-refl 1) (omega arith) (c .next-choice .result) (pre .2)
     (end-choice (a .n) 1 1 (a .k) (c .next-choice .result) (pre .1) (c .next-choice .ensures))
 
 chosen-lines-requires : tie.Need-chosen-lines-requires Inv-loop μ-loop Inv-choices μ-choices
@@ -68,7 +70,7 @@ loop-holds c =
     let a = c .before .before .before .before .before .args in
     let pre = c .before .before .before .before .before .pre in
     let lines = c .before .before .before .choices .lines in
-    passed-none (a .step) (2 ^ a .n) (a .k) (Regular (a .p) (a .n) (a .k) (entry (a .m)) lines) (other-columns (a .p) (a .n) (a .k) (entry (a .m)) lines) (c .next-choice2 .result) (pre .2)
+    passed-none (a .step) (2 ^ a .n) (a .k) (Regular (a .p) (a .n) (a .k) (entry (a .m)) lines) (other-columns (a .p) (a .n) (a .k) (entry (a .m)) lines) (pre .4) (pre .5) (c .next-choice2 .result) (pre .2)
     (end-choice (a .n) 1 (a .step) (a .k) (c .next-choice2 .result) (pre .1) (c .next-choice2 .ensures))
 
 -- in a turn of the inner loop both masks are choices of k
@@ -129,7 +131,7 @@ next-choice-requires-3 c κs =
     (pre .4, pre .5, most (c .before .before .before .before .before .before .before .before .before .before .args .n) (pre .1))
 
 loop-less : tie.Need-loop-less Inv-loop μ-loop Inv-choices μ-choices
-loop-less c = omega (arith, c .before .before .before .before .before .before .before .before .before .before .before .pre .4, c .before .before .before .before .loop-test .taken, c .next-choice3 .ensures .begins)
+loop-less c = omega (arith, c .before .before .before .before .before .before .before .before .before .before .before .pre .4, c .before .before .before .before .loop-test .taken, choice-begins _ _ _ _ _ (c .next-choice3 .ensures))
 
 loop-again : tie.Need-loop-again Inv-loop μ-loop Inv-choices μ-choices
 loop-again c =
@@ -138,8 +140,7 @@ loop-again c =
     let lines = c .before .before .before .before .before .before .before .before .before .choices .lines in
     let columns = c .before .before .before .before .before .loop in
     let d = c .before .before .determinant .result in
-    passed-more (a .step) (2 ^ a .n) (a .k) (Regular (a .p) (a .n) (a .k) (entry (a .m)) lines) (other-columns (a .p) (a .n) (a .k) (entry (a .m)) lines) (columns .columns) (c .next-choice3 .result)
-    (pre .4) (pre .5) (columns .inv)
+    passed-more (a .step) (2 ^ a .n) (a .k) (Regular (a .p) (a .n) (a .k) (entry (a .m)) lines) (other-columns (a .p) (a .n) (a .k) (entry (a .m)) lines) (pre .4) (pre .5) (columns .columns) (c .next-choice3 .result) (columns .inv)
     (block-regular (a .p) (a .n) (a .k) (entry (a .m)) lines (columns .columns) d (chosen-det (c .before .before)) (c .before .if1 .left))
     (end-choice (a .n) (columns .columns + a .step) (a .step) (a .k) (c .next-choice3 .result) (pre .1) (c .next-choice3 .ensures))
 
@@ -150,7 +151,7 @@ next-choice-requires-4 : tie.Need-next-choice-requires-4 Inv-loop μ-loop Inv-ch
 next-choice-requires-4 c κs = (le-refl 1, omega arith, most (c .before .before .before .before .before .before .before .args .n) (c .before .before .before .before .before .before .before .pre .1))
 
 choices-less : tie.Need-choices-less Inv-loop μ-loop Inv-choices μ-choices
-choices-less c = omega (arith, c .before .before .before .before .before .choices-test .taken, c .next-choice4 .ensures .begins)
+choices-less c = omega (arith, c .before .before .before .before .before .choices-test .taken, choice-begins _ _ _ _ _ (c .next-choice4 .ensures))
 
 choices-again : tie.Need-choices-again Inv-loop μ-loop Inv-choices μ-choices
 choices-again c =
@@ -158,8 +159,7 @@ choices-again c =
     let pre = c .before .before .before .before .before .before .before .before .pre in
     let lines = c .before .before .before .before .before .before .choices in
     let columns = c .before .before .loop in
-    passed-more 1 (2 ^ a .n) (a .k) (RegularLines (a .p) (a .n) (a .k) (entry (a .m)) (a .step)) (lines-others (a .p) (a .n) (a .k) (entry (a .m)) (a .step)) (lines .lines) (c .next-choice4 .result)
-    (le-refl 1) (omega arith) (lines .inv)
+    passed-more 1 (2 ^ a .n) (a .k) (RegularLines (a .p) (a .n) (a .k) (entry (a .m)) (a .step)) (lines-others (a .p) (a .n) (a .k) (entry (a .m)) (a .step)) (le-refl 1) (omega arith) (lines .lines) (c .next-choice4 .result) (lines .inv)
     (lines-passed (a .p) (a .n) (a .k) (entry (a .m)) (a .step) (lines .lines) (columns .columns) (columns .inv) (past (a .n) (pre .1) (columns .columns) (c .before .loop-test .left)))
     (end-choice (a .n) (lines .lines + 1) 1 (a .k) (c .next-choice4 .result) (pre .1) (c .next-choice4 .ensures))
 

@@ -9,8 +9,8 @@ use native.Mathlib.Omega.{arith}
 use borrow.Author.Count.{below-none, below-more}
 use borrow.Author.Tests.{not-true, not-false}
 use Rattle.matrix.specs.Numbers.{numbers, entry}
-use Rattle.matrix.specs.Regular.{regularOfSize, regularUpTo}
-use Rattle.matrix.proofs.Regularity.{every-true, every-false}
+use Rattle.matrix.specs.Steps.Regular.{regularOfSize, regularUpTo}
+use Rattle.matrix.proofs.Squares.{each-every, every-not}
 use borrow.Author.Needs.{needs}
 use Rattle.matrix.proofs.block.regular_up_to.Statement.{statement}
 use Rattle.matrix.proofs.block.regular_up_to.Tie as tie
@@ -50,8 +50,8 @@ returns : tie.Need-returns Inv-loop μ-loop
 unfolding regularUpTo
 returns c =
     let a = c .before .before .before .before .args in
-    sym (every-false (a .most) (isRegular (a .p) (a .m) (a .n) (a .step)) (c .before .before .before .loop .k) (c .before .before .loop-test .taken)
-    (sym (size (c .before)) ∙ not-true _ (c .if1 .taken)))
+    every-not (a .most) (isRegular (a .p) (a .m) (a .n) (a .step)) (c .before .before .before .loop .k) (c .before .before .loop-test .taken)
+    (sym (size (c .before)) ∙ not-true _ (c .if1 .taken))
 
 add-k : tie.Need-add-k Inv-loop μ-loop
 add-k c = search needs
@@ -69,7 +69,7 @@ returns-2 : tie.Need-returns-2 Inv-loop μ-loop
 unfolding regularUpTo
 returns-2 c =
     let a = c .before .before .args in
-    sym (every-true (a .most) (isRegular (a .p) (a .m) (a .n) (a .step)) (λ i l. c .before .loop .inv .1 i (lt-of-lt-of-le l (c .loop-test .left))))
+    sym (each-every (a .most) (isRegular (a .p) (a .m) (a .n) (a .step)) (λ i l. c .before .loop .inv .1 i (lt-of-lt-of-le l (c .loop-test .left))))
 
 pub regular-up-to-spec : {M : Type 1} → statement M
 regular-up-to-spec =

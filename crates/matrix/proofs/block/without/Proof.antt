@@ -1,30 +1,31 @@
 -- `matrix::block::without` meets its contract: the lines before i are in place. Assumes nothing.
 use mathlib.Core.Path.{_≡_, refl, ap, _∙_}
-use mathlib.Core.List.{List, []}
+use mathlib.Core.List.{List}
 use Prim.Native.Nat.{ℕ, _-_, _<_}
 use native.Mathlib.Numerals.{add-one}
 use native.Mathlib.Omega.{arith}
-use borrow.Author.Count.{below-none}
-use lib.ListN.{length, getD, length-set}
-use Rattle.algebra.specs.Matrix.{skip, without}
+use lib.ListN.{replicate}
+use Rattle.algebra.specs.Matrix.{tabulate, skip, without}
 use Rattle.matrix.specs.Numbers.{entry}
-use Rattle.matrix.proofs.Minors.{stored-more}
+use Rattle.matrix.specs.Steps.Blocks.{filled, framed}
+use Rattle.matrix.proofs.Filled.{filled-more}
 use borrow.Author.Needs.{needs}
 use Rattle.matrix.proofs.block.without.Statement.{statement}
 use Rattle.matrix.proofs.block.without.Tie as tie
 
--- l is line a of the block that is left
-abbrev LineOf : List (List ℕ) → ℕ → ℕ → List ℕ → Type 0
-LineOf block j a l = (k : ℕ) → k < 7 → getD l k 0 ≡ without (entry block) j a k
+-- line i of the block that is left
+abbrev line : List (List ℕ) → ℕ → ℕ → List ℕ
+line block j i = filled 0 (without (entry block) j i) 7
 
 abbrev Inv-loop : tie.InvT-loop
-Inv-loop n j block r₀ i₀ r i = (i < n) × (length r ≡ 8) × ((a : ℕ) → a < i → LineOf block j a (getD r a []))
+Inv-loop n j block r₀ i₀ r i = (i < n) × (r ≡ filled (replicate 8 0) (line block j) i)
 
 abbrev μ-loop : tie.MeasureT-loop
 μ-loop n j block r₀ i₀ r i = n - i
 
 loop-holds : tie.Need-loop-holds Inv-loop μ-loop
-loop-holds c = (omega arith, refl, below-none (λ a. _))
+unfolding tabulate
+loop-holds c = (omega arith, refl)
 
 add-loop : tie.Need-add-loop Inv-loop μ-loop
 add-loop c = search needs
@@ -60,16 +61,17 @@ loop-again c =
     let j = c .before .before .before .before .args .j in
     let r = c .before .before .before .loop .r in
     let i = c .before .before .before .loop .i in
-    let line = c .without-column .result in
     let inv = c .before .before .before .loop .inv in (
       c .before .before .loop-test .taken,
-      length-set r i line ∙ inv .1,
-      stored-more (LineOf block j) r i line [] (omega arith) (inv .2)
-          (λ k l. c .without-column .ensures k l ∙ ap (λ (n : ℕ). entry block n (skip j k)) (add-one i)),
+      filled-more (replicate 8 0) (line block j) i r (c .without-column .result) (omega arith) (inv .1)
+          (c .without-column .ensures ∙ ap (λ (n : ℕ). filled 0 (λ k. entry block n (skip j k)) 7) (add-one i)),
     )
 
 returns : tie.Need-returns Inv-loop μ-loop
-returns c = λ i k l h. c .before .loop .inv .2 i (omega arith) k h
+unfolding framed
+returns c =
+    let last : c .before .loop .i ≡ c .before .before .args .n - 1 = omega arith in
+    rw last at (c .before .loop .inv .1)
 
 pub without-spec : {M : Type 1} → statement M
 without-spec =

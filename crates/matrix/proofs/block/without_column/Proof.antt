@@ -4,8 +4,10 @@ use Prim.Native.Nat.{ℕ, _+_, _-_, _≤_, _<_}
 use native.Mathlib.Nat.{le-refl, lt-of-lt-of-le}
 use native.Mathlib.Numerals.{add-one}
 use native.Mathlib.Omega.{arith}
-use lib.ListN.{length, getD, length-set}
+use lib.ListN.{length, getD, set, length-set}
+use lib.Seq.{getD-set-same, getD-set-other}
 use Rattle.algebra.specs.Matrix.{skip}
+use Rattle.matrix.proofs.Filled.{filled-of}
 use Rattle.matrix.proofs.Minors.{skip-before, skip-behind, stored-more}
 use borrow.Author.Needs.{needs}
 use Rattle.matrix.proofs.block.without_column.Statement.{statement}
@@ -52,8 +54,16 @@ loop-again c =
           (ap (λ (n : ℕ). getD line n 0) (add-one k ∙ sym (skip-behind j k (inv .0)))),
     )
 
+array-write-r-2 : tie.Need-array-write-r-2 Inv-loop μ-loop
+array-write-r-2 c = search needs
+
 returns : tie.Need-returns Inv-loop μ-loop
-returns c = λ k l. c .before .loop .inv .3 k (lt-of-lt-of-le l (c .loop-test .left))
+returns c =
+    let r = c .before .loop .r in
+    let inv = c .before .loop .inv in
+    filled-of 0 _ 7 (set r 7 0) 0 (omega arith) (length-set r 7 0 ∙ inv .2)
+    (λ i l. getD-set-other r 7 i 0 0 (λ (e : i ≡ 7). omega arith) ∙ inv .3 i (lt-of-lt-of-le l (c .loop-test .left)))
+    (λ i l m. let e : i ≡ 7 = omega arith in rw e (getD-set-same r 7 0 0 (omega arith)))
 
 pub without-column-spec : {M : Type 1} → statement M
 without-column-spec =
@@ -68,4 +78,5 @@ without-column-spec =
     add-k
     loop-less
     loop-again
+    array-write-r-2
     returns)

@@ -5,20 +5,21 @@ use native.Mathlib.Nat.{le-trans}
 use native.Mathlib.Numerals.{add-one}
 use native.Mathlib.Omega.{arith}
 use lib.Count.{ones, ones-le}
-use lib.ListN.{length, getD}
+use lib.ListN.{length}
 use lib.Pow.{pow-pos}
 use borrow.Author.Needs.{needs}
-use Rattle.algebra.specs.Matrix.{chosen}
-use Rattle.matrix.specs.Numbers.{numbers, entry, InField}
-use Rattle.matrix.specs.Pairs.{overPairs}
-use Rattle.matrix.proofs.Selections.{chosen-among, chosen-ones, mask-fits}
-use Rattle.matrix.proofs.Trials.{shifted, columns-in-field, pairs-more, pairs-one}
+use Rattle.algebra.specs.Steps.{chosen}
+use Rattle.matrix.specs.Numbers.{numbers, elements, entry}
+use Rattle.matrix.specs.Steps.Conditions.{InField}
+use Rattle.matrix.specs.Steps.Pairs.{overPairs}
+use Rattle.matrix.proofs.Selections.{chosen-ones, mask-fits, shifted, column-chosen}
+use Rattle.matrix.proofs.Trials.{columns-in-field, pairs-more, pairs-one}
 use Rattle.matrix.proofs.Least.{pairs-branch}
 use Rattle.matrix.proofs.branch.branch_number.Statement.{statement}
 use Rattle.matrix.proofs.branch.branch_number.Tie as tie
 
 abbrev Inv-loop : tie.InvT-loop
-Inv-loop p m n end best₀ columns₀ best columns = (columns ≤ end) × (best ≡ overPairs (numbers p) n (entry m) columns (suc n))
+Inv-loop p m n end best₀ columns₀ best columns = (columns ≤ end) × (best ≡ overPairs (numbers p) (elements p) n (entry m) columns (suc n))
 
 abbrev μ-loop : tie.MeasureT-loop
 μ-loop p m n end best₀ columns₀ best columns = end - columns
@@ -36,7 +37,7 @@ loop-holds : tie.Need-loop-holds Inv-loop μ-loop
 loop-holds c =
     let args = c .args in (
       omega (arith, shifted (args .n) (c .pre .2), pow-pos (args .n)),
-      add-one (args .n) ∙ sym (pairs-one (numbers (args .p)) (args .n) (entry (args .m)) (suc (args .n))),
+      add-one (args .n) ∙ sym (pairs-one (numbers (args .p)) (elements (args .p)) (args .n) (entry (args .m)) (suc (args .n))),
     )
 
 -- the mask is one of the order's
@@ -57,14 +58,6 @@ chosen-columns-requires : tie.Need-chosen-columns-requires Inv-loop μ-loop
 chosen-columns-requires c κs =
     (c .before .before .pre .2, mask-fits (c .before .before .args .n) (c .before .loop .columns) (c .before .before .pre .2) (inside c))
 
--- the columns that are chosen
-picked : (c : tie.After-chosen-columns Inv-loop μ-loop) → (i j : ℕ) → i < c .before .before .before .args .n
-    → j < length (chosen (c .before .before .before .args .n) (c .before .before .loop .columns))
-    → entry (c .chosen-columns .result) i j ≡ entry (c .before .before .before .args .m) i (getD (chosen (c .before .before .before .args .n) (c .before .before .loop .columns)) j 0)
-picked c =
-    rw (chosen-among (c .before .before .before .args .n) (c .before .before .loop .columns) (c .before .before .before .pre .2) (inside (c .before))) at
-    (c .chosen-columns .ensures)
-
 over-lines-requires : tie.Need-over-lines-requires Inv-loop μ-loop
 over-lines-requires c κs =
     let start = c .before .before .before in
@@ -72,9 +65,8 @@ over-lines-requires c κs =
       start .pre .0,
       start .pre .2,
       few (c .before),
-      rw (sized (c .before))
-          (columns-in-field (args .p) (args .n) (c .before .before .loop .columns) (args .m) (c .chosen-columns .result)
-          (start .pre .3) (picked c)),
+      columns-in-field (args .p) (args .n) (c .before .before .loop .columns) (args .m) (c .chosen-columns .result) (start .pre .2) (inside (c .before))
+          (c .chosen-columns .ensures) (start .pre .3),
     )
 
 add-columns : tie.Need-add-columns Inv-loop μ-loop
@@ -86,11 +78,13 @@ loop-less c = search needs
 loop-again : tie.Need-loop-again Inv-loop μ-loop
 loop-again c =
     let args = c .before .before .before .before .args in
-    let loop = c .before .before .before .loop in (
+    let loop = c .before .before .before .loop in
+    let n = args .n in
+    let chosen-is = column-chosen n (loop .columns) (args .m) (c .before .chosen-columns .result) (c .before .before .before .before .pre .2) (inside (c .before .before)) n in (
       omega arith,
-      pairs-more (numbers (args .p)) (args .n) (entry (args .m)) (entry (c .before .chosen-columns .result)) (loop .columns)
+      pairs-more (numbers (args .p)) (elements (args .p)) (args .n) (entry (args .m)) (entry (c .before .chosen-columns .result)) (loop .columns)
           (ones (loop .columns)) (suc (args .n)) (loop .best) (c .over-lines .result)
-          (sized (c .before .before)) (picked (c .before)) (loop .inv .1) (c .over-lines .ensures),
+          (sized (c .before .before)) (chosen-is (c .before .chosen-columns .ensures)) (loop .inv .1) (c .over-lines .ensures),
     )
 
 returns : tie.Need-returns Inv-loop μ-loop
@@ -101,7 +95,7 @@ returns c =
     let loop = c .before .loop in
     let last : loop .columns ≡ 2 ^ args .n = omega (arith, shifted (args .n) (start .pre .2)) in
     loop .inv .1
-    ∙ ap (λ (k : ℕ). overPairs (numbers (args .p)) (args .n) (entry (args .m)) k (suc (args .n))) last
+    ∙ ap (λ (k : ℕ). overPairs (numbers (args .p)) (elements (args .p)) (args .n) (entry (args .m)) k (suc (args .n))) last
     ∙ pairs-branch (args .p) (start .pre .0) (args .n) (entry (args .m)) (start .pre .3) (start .pre .1)
 
 pub branch-number-spec : {M : Type 1} → statement M

@@ -1,23 +1,27 @@
 -- `matrix::branch::cleared` meets its contract: the lines before line i are those of the cleared block. Assumes nothing.
 use mathlib.Core.Path.{_≡_, refl}
-use mathlib.Core.List.{[]}
+use mathlib.Core.List.{List}
 use Prim.Native.Nat.{ℕ, _+_, _-_, _≤_, _<_}
-use native.Mathlib.Nat.{not-suc-le-zero}
 use native.Mathlib.Omega.{arith}
-use lib.ListN.{length, getD, length-set}
+use lib.ListN.{replicate}
 use borrow.Author.Needs.{needs}
-use Rattle.algebra.proofs.Kernel.{cleared, skip-le}
-use Rattle.matrix.specs.Numbers.{numbers, entry, InField, WordsInField}
-use Rattle.matrix.proofs.Elimination.{cleared-entry}
-use Rattle.matrix.proofs.Minors.{stored-more}
+use Rattle.algebra.specs.Matrix.{tabulate}
+use Rattle.algebra.specs.Steps.{cleared}
+use Rattle.algebra.proofs.Kernel.{skip-le}
+use Rattle.matrix.specs.Numbers.{numbers, entry}
+use Rattle.matrix.specs.Steps.Conditions.{InField, WordsInField}
+use Rattle.matrix.specs.Steps.Blocks.{filled, framed}
+use Rattle.matrix.proofs.Elimination.{cleared-as}
+use Rattle.matrix.proofs.Filled.{filled-more}
 use Rattle.matrix.proofs.branch.cleared.Statement.{statement}
 use Rattle.matrix.proofs.branch.cleared.Tie as tie
 
+-- line i of the cleared block
+abbrev lineOf : ℕ → ℕ → ℕ → List (List ℕ) → ℕ → List ℕ
+lineOf p c k block i = filled 0 (cleared (numbers p) (entry block) k i) (c - 1)
+
 abbrev Inv-loop : tie.InvT-loop
-Inv-loop p r c k block first b₀ i₀ b i =
-    (i + 1 ≤ r)
-    × (length b ≡ 8)
-    × ((l : ℕ) → l < i → (j : ℕ) → j + 1 < c → getD (getD b l []) j 0 ≡ cleared (numbers p) (entry block) k l j)
+Inv-loop p r c k block first b₀ i₀ b i = (i + 1 ≤ r) × (b ≡ filled (replicate 8 0) (lineOf p c k block) i)
 
 abbrev μ-loop : tie.MeasureT-loop
 μ-loop p r c k block first b₀ i₀ b i = r - i
@@ -29,7 +33,8 @@ array-copy-out-first : tie.Need-array-copy-out-first Inv-loop μ-loop
 array-copy-out-first c = search needs
 
 loop-holds : tie.Need-loop-holds Inv-loop μ-loop
-loop-holds c = (omega arith, refl, λ k l. absurd (not-suc-le-zero l))
+unfolding tabulate
+loop-holds c = (omega arith, refl)
 
 add-loop : tie.Need-add-loop Inv-loop μ-loop
 add-loop c = search needs
@@ -73,16 +78,16 @@ loop-again c =
     let args = c .before .before .before .before .before .before .args in
     let loop = c .before .before .before .before .loop in (
       omega arith,
-      simp length-set (loop .inv .1),
-      stored-more (λ l v. (j : ℕ) → j + 1 < args .c → getD v j 0 ≡ cleared (numbers (args .p)) (entry (args .t2)) (args .k) l j)
-          (loop .b) (loop .i) (c .cleared-line .result) [] (omega arith) (loop .inv .2)
-          (λ j l.
-          cleared-entry (args .p) (args .t2) (args .k) (loop .i) j (c .before .before .other-line .result) (getD (c .cleared-line .result) j 0)
-          (c .before .before .other-line .ensures) (c .cleared-line .ensures j l)),
+      filled-more (replicate 8 0) (lineOf (args .p) (args .c) (args .k) (args .t2)) (loop .i) (loop .b) (c .cleared-line .result) (omega arith) (loop .inv .1)
+          (cleared-as (args .p) (args .t2) (args .k) (loop .i) (c .before .before .other-line .result) (args .c - 1) (c .cleared-line .result)
+          (c .before .before .other-line .ensures) (c .cleared-line .ensures)),
     )
 
 returns : tie.Need-returns Inv-loop μ-loop
-returns c i j l m = c .before .loop .inv .2 i (omega arith) j m
+unfolding framed
+returns c =
+    let last : c .before .loop .i ≡ c .before .before .before .args .r - 1 = omega arith in
+    rw last at (c .before .loop .inv .1)
 
 pub cleared-spec : {M : Type 1} → statement M
 cleared-spec =

@@ -1,22 +1,28 @@
 -- `matrix::branch::cleared_line` meets its contract: the entries before place j are those of the cleared line. Assumes nothing.
-use mathlib.Core.Path.{_≡_, refl, ap₂}
-use Prim.Native.Nat.{ℕ, _+_, _-_, _≤_, _<_}
-use native.Mathlib.Nat.{not-suc-le-zero}
+use mathlib.Core.Path.{_≡_, refl, ap, ap₂, _∙_}
+use mathlib.Core.List.{List}
+use Prim.Native.Nat.{ℕ, _+_, _-_, _≤_}
+use native.Mathlib.Numerals.{add-one}
 use native.Mathlib.Omega.{arith}
 use lib.Bits.{bitXor}
-use lib.ListN.{length, getD, length-set}
+use lib.ListN.{getD}
 use borrow.Author.Needs.{needs}
+use Rattle.algebra.specs.Matrix.{tabulate}
+use Rattle.algebra.specs.Steps.{clearedLine}
 use Rattle.field.specs.Polynomial.{_⊕_, product}
-use Rattle.matrix.specs.Numbers.{WordsInField}
-use Rattle.matrix.proofs.Minors.{stored-more}
+use Rattle.matrix.specs.Numbers.{numbers}
+use Rattle.matrix.specs.Steps.Conditions.{WordsInField}
+use Rattle.matrix.specs.Steps.Blocks.{filled}
+use Rattle.matrix.proofs.Filled.{filled-more}
 use Rattle.matrix.proofs.branch.cleared_line.Statement.{statement}
 use Rattle.matrix.proofs.branch.cleared_line.Tie as tie
 
+-- the entries of the cleared line
+abbrev entries : ℕ → List ℕ → List ℕ → ℕ → ℕ
+entries p first line = clearedLine (numbers p) (λ j. getD first j 0) (λ j. getD line j 0)
+
 abbrev Inv-loop : tie.InvT-loop
-Inv-loop p c first line a b r₀ j₀ r j =
-    (j + 1 ≤ c)
-    × (length r ≡ 8)
-    × ((k : ℕ) → k < j → getD r k 0 ≡ product p (getD first 0 0) (getD line (k + 1) 0) ⊕ product p (getD line 0 0) (getD first (k + 1) 0))
+Inv-loop p c first line a b r₀ j₀ r j = (j + 1 ≤ c) × (r ≡ filled 0 (entries p first line) j)
 
 abbrev μ-loop : tie.MeasureT-loop
 μ-loop p c first line a b r₀ j₀ r j = c - j
@@ -28,7 +34,8 @@ array-read-b : tie.Need-array-read-b Inv-loop μ-loop
 array-read-b c = search needs
 
 loop-holds : tie.Need-loop-holds Inv-loop μ-loop
-loop-holds c = (omega arith, refl, λ k l. absurd (not-suc-le-zero l))
+unfolding tabulate
+loop-holds c = (omega arith, refl)
 
 add-loop : tie.Need-add-loop Inv-loop μ-loop
 add-loop c = search needs
@@ -72,16 +79,16 @@ loop-again c =
     let args = c .before .before .before .before .args in
     let loop = c .before .before .before .loop in (
       omega arith,
-      simp length-set (loop .inv .1),
-      stored-more
-          (λ k v.
-          v ≡ product (args .p) (getD (args .t2) 0 0) (getD (args .t3) (k + 1) 0) ⊕ product (args .p) (getD (args .t3) 0 0) (getD (args .t2) (k + 1) 0))
-          (loop .r) (loop .j) (bitXor (c .before .product .result) (c .product2 .result)) 0 (omega arith) (loop .inv .2)
-          (ap₂ bitXor (c .before .product .ensures) (c .product2 .ensures)),
+      filled-more 0 (entries (args .p) (args .t2) (args .t3)) (loop .j) (loop .r) (bitXor (c .before .product .result) (c .product2 .result)) (omega arith) (loop .inv .1)
+          (ap₂ bitXor
+          (c .before .product .ensures ∙ ap (λ (k : ℕ). product (args .p) (getD (args .t2) 0 0) (getD (args .t3) k 0)) (add-one (loop .j)))
+          (c .product2 .ensures ∙ ap (λ (k : ℕ). product (args .p) (getD (args .t3) 0 0) (getD (args .t2) k 0)) (add-one (loop .j)))),
     )
 
 returns : tie.Need-returns Inv-loop μ-loop
-returns c j l = c .before .loop .inv .2 j (omega arith)
+returns c =
+    let last : c .before .loop .j ≡ c .before .before .args .c - 1 = omega arith in
+    rw last at (c .before .loop .inv .1)
 
 pub cleared-line-spec : {M : Type 1} → statement M
 cleared-line-spec =

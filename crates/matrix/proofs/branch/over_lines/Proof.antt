@@ -3,14 +3,15 @@ use mathlib.Core.Path.{_≡_, refl, ap, _∙_}
 use Prim.Native.Nat.{ℕ, _-_, _^_, _≤_}
 use native.Mathlib.Omega.{arith}
 use borrow.Author.Needs.{needs}
-use Rattle.matrix.specs.Numbers.{numbers, entry}
-use Rattle.matrix.specs.Pairs.{overLines}
-use Rattle.matrix.proofs.Trials.{shifted, lines-more}
+use Rattle.matrix.specs.Numbers.{numbers, elements, entry}
+use Rattle.matrix.specs.Steps.Pairs.{overLines}
+use Rattle.matrix.proofs.Selections.{shifted}
+use Rattle.matrix.proofs.Trials.{lines-more}
 use Rattle.matrix.proofs.branch.over_lines.Statement.{statement}
 use Rattle.matrix.proofs.branch.over_lines.Tie as tie
 
 abbrev Inv-loop : tie.InvT-loop
-Inv-loop p narrow n c best end least₀ lines₀ least lines = (lines ≤ end) × (least ≡ overLines (numbers p) n c (entry narrow) lines best)
+Inv-loop p narrow n c best end least₀ lines₀ least lines = (lines ≤ end) × (least ≡ overLines (numbers p) (elements p) n c (entry narrow) lines best)
 
 abbrev μ-loop : tie.MeasureT-loop
 μ-loop p narrow n c best end least₀ lines₀ least lines = end - lines
@@ -41,7 +42,7 @@ loop-again c =
     let args = c .before .before .before .args in
     let loop = c .before .before .loop in (
       omega arith,
-      lines-more (numbers (args .p)) (args .n) (args .c) (entry (args .narrow)) (loop .lines) (args .best) (loop .least) (c .tried .result)
+      lines-more (numbers (args .p)) (elements (args .p)) (args .n) (args .c) (entry (args .narrow)) (loop .lines) (args .best) (loop .least) (c .tried .result)
           (loop .inv .1) (c .tried .ensures),
     )
 
@@ -51,7 +52,7 @@ returns c =
     let args = start .args in
     let loop = c .before .loop in
     let last : loop .lines ≡ 2 ^ args .n = omega (arith, shifted (args .n) (start .pre .1)) in
-    loop .inv .1 ∙ ap (λ (k : ℕ). overLines (numbers (args .p)) (args .n) (args .c) (entry (args .narrow)) k (args .best)) last
+    loop .inv .1 ∙ ap (λ (k : ℕ). overLines (numbers (args .p)) (elements (args .p)) (args .n) (args .c) (entry (args .narrow)) k (args .best)) last
 
 pub over-lines-spec : {M : Type 1} → statement M
 over-lines-spec =

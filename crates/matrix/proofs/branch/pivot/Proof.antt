@@ -8,9 +8,8 @@ use native.Mathlib.Omega.{arith}
 use lib.Dec.{eqb}
 use borrow.Author.Needs.{needs}
 use borrow.Author.Tests.{eq-eqb, ne-eqb}
-use Rattle.field.proofs.Inverses.{first-is}
+use Rattle.field.proofs.Inverses.{first-is, first-none}
 use Rattle.matrix.specs.Numbers.{entry}
-use Rattle.matrix.proofs.Elimination.{first-none}
 use Rattle.matrix.proofs.branch.pivot.Statement.{statement}
 use Rattle.matrix.proofs.branch.pivot.Tie as tie
 

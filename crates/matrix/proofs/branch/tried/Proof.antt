@@ -1,16 +1,14 @@
 -- `matrix::branch::tried` meets its contract. Assumes nothing.
 use mathlib.Core.Path.{_≡_, sym, ap, _∙_}
-use mathlib.Core.List.{[]}
-use Prim.Native.Nat.{ℕ, _+_, _-_, _≤_, _<_}
+use Prim.Native.Nat.{ℕ, _+_, _-_, _≤_}
 use native.Mathlib.Nat.{le-of-lt}
 use native.Mathlib.Omega.{arith}
 use lib.Count.{ones, ones-le}
-use lib.ListN.{length, getD}
-use Rattle.algebra.specs.Matrix.{chosen}
-use Rattle.algebra.proofs.Kernel.{hasKernel}
-use Rattle.matrix.specs.Numbers.{numbers, entry}
-use Rattle.matrix.specs.Pairs.{linesKernel}
-use Rattle.matrix.proofs.Selections.{chosen-among, chosen-ones, mask-fits}
+use lib.ListN.{length}
+use Rattle.algebra.specs.Steps.{chosen}
+use Rattle.matrix.specs.Numbers.{numbers, elements, entry}
+use Rattle.matrix.specs.Steps.Pairs.{linesKernel}
+use Rattle.matrix.proofs.Selections.{chosen-ones, mask-fits}
 use Rattle.matrix.proofs.Trials.{lowered-skip, lowered-true, lowered-false, lines-kernel, lines-in-field}
 use Rattle.matrix.proofs.branch.tried.Statement.{statement}
 use Rattle.matrix.proofs.branch.tried.Tie as tie
@@ -34,18 +32,11 @@ add-size c = record { fits = omega arith }
 returns : tie.Need-returns
 returns c =
     let args = c .before .args in
-    lowered-skip (linesKernel (numbers (args .p)) (args .n) (args .c) (entry (args .narrow)) (args .lines))
+    lowered-skip (linesKernel (numbers (args .p)) (elements (args .p)) (args .n) (args .c) (entry (args .narrow)) (args .lines))
     (args .c + (args .n - length (chosen (args .n) (args .lines)))) (args .best) (rw (sized (c .before)) at (c .if1 .taken))
 
 chosen-lines-requires : tie.Need-chosen-lines-requires
 chosen-lines-requires c κs = mask-fits (c .before .args .n) (c .before .args .lines) (c .before .pre .1) (c .before .pre .4)
-
--- the lines that are chosen
-picked : (c : tie.After-chosen-lines) → (i : ℕ) → i < length (chosen (c .before .before .args .n) (c .before .before .args .lines))
-    → getD (c .chosen-lines .result) i [] ≡ getD (c .before .before .args .narrow) (getD (chosen (c .before .before .args .n) (c .before .before .args .lines)) i 0) []
-picked c =
-    rw (chosen-among (c .before .before .args .n) (c .before .before .args .lines) (c .before .before .pre .1) (c .before .before .pre .4)) at
-    (c .chosen-lines .ensures)
 
 has-kernel-requires : tie.Need-has-kernel-requires
 has-kernel-requires c κs =
@@ -54,27 +45,25 @@ has-kernel-requires c κs =
       start .pre .0,
       omega (arith, few start),
       start .pre .2,
-      rw (sized start)
-          (lines-in-field (args .p) (args .n) (args .c) (args .lines) (args .narrow) (c .chosen-lines .result)
-          (start .pre .3) (picked c)),
+      lines-in-field (args .p) (args .n) (args .c) (args .lines) (args .narrow) (c .chosen-lines .result) (start .pre .1) (start .pre .4) (c .chosen-lines .ensures) (start .pre .3),
     )
 
 -- what the elimination decides
 decided : (c : tie.After-has-kernel)
     → c .has-kernel .result
-    ≡ linesKernel (numbers (c .before .before .before .args .p)) (c .before .before .before .args .n) (c .before .before .before .args .c)
+    ≡ linesKernel (numbers (c .before .before .before .args .p)) (elements (c .before .before .before .args .p)) (c .before .before .before .args .n) (c .before .before .before .args .c)
     (entry (c .before .before .before .args .narrow)) (c .before .before .before .args .lines)
 decided c =
     let args = c .before .before .before .args in
+    let pre = c .before .before .before .pre in
     c .has-kernel .ensures
-    ∙ ap (λ (r : ℕ). hasKernel (numbers (args .p)) (args .c) r (entry (c .before .chosen-lines .result))) (sized (c .before .before .before))
-    ∙ lines-kernel (args .p) (args .n) (args .c) (args .lines) (args .narrow) (c .before .chosen-lines .result) (picked (c .before))
+    ∙ lines-kernel (args .p) (args .n) (args .c) (args .lines) (args .narrow) (c .before .chosen-lines .result) (pre .1) (pre .4) (c .before .chosen-lines .ensures)
 
 returns-2 : tie.Need-returns-2
 returns-2 c =
     let args = c .before .before .before .before .args in
     ap (λ (r : ℕ). args .c + (args .n - r)) (sized (c .before .before .before .before))
-    ∙ lowered-true (linesKernel (numbers (args .p)) (args .n) (args .c) (entry (args .narrow)) (args .lines))
+    ∙ lowered-true (linesKernel (numbers (args .p)) (elements (args .p)) (args .n) (args .c) (entry (args .narrow)) (args .lines))
     (args .c + (args .n - length (chosen (args .n) (args .lines)))) (args .best)
     (sym (decided (c .before)) ∙ c .if2 .taken)
     (rw (sized (c .before .before .before .before)) at (le-of-lt (c .before .before .before .if1 .left)))
@@ -82,7 +71,7 @@ returns-2 c =
 returns-3 : tie.Need-returns-3
 returns-3 c =
     let args = c .before .before .before .before .args in
-    lowered-false (linesKernel (numbers (args .p)) (args .n) (args .c) (entry (args .narrow)) (args .lines))
+    lowered-false (linesKernel (numbers (args .p)) (elements (args .p)) (args .n) (args .c) (entry (args .narrow)) (args .lines))
     (args .c + (args .n - length (chosen (args .n) (args .lines)))) (args .best) (sym (decided (c .before)) ∙ c .if2 .left)
 
 pub tried-spec : {M : Type 1} → statement M

@@ -1,12 +1,9 @@
 -- `matrix::call::check` meets its contract. Assumes nothing.
-use mathlib.Core.Path.{_≡_, ap, ap₂, _∙_}
-use Prim.Native.Nat.{ℕ, suc, _+_}
 use native.Mathlib.Numerals.{add-one}
 use native.Mathlib.Omega.{arith}
-use lib.Dec.{eqb}
 use Rattle.algebra.specs.Matrix.{isMds}
-use Rattle.matrix.specs.Numbers.{InField}
-use Rattle.matrix.specs.Answers.{yesNo, checkOf, CheckAnswer}
+use Rattle.matrix.specs.Steps.Conditions.{InField}
+use Rattle.matrix.specs.Answers.{checkOf}
 use Rattle.matrix.proofs.Theorems.{branch-most}
 use borrow.Author.Needs.{needs}
 use Rattle.matrix.proofs.call.check.Statement.{statement}
@@ -37,21 +34,9 @@ yes-no-requires-2 c κs = search needs
 matrix-count-requires : tie.Need-matrix-count-requires
 matrix-count-requires c κs = search needs
 
--- the answer of four parts
-four : {b b' m m' i i' k k' : ℕ} → b ≡ b' → m ≡ m' → i ≡ i' → k ≡ k'
-    → _≡_ {A = CheckAnswer} (record { number = 0; branch = b; mds = m; involution = i; count = k }) (record { number = 0; branch = b'; mds = m'; involution = i'; count = k' })
-four e f g h = cc
-
--- the test for MDS as the definition writes it
-mds : (b c n r : ℕ) → r ≡ yesNo (eqb b (n + 1)) → b ≡ c → r ≡ yesNo (eqb c (suc n))
-mds b c n r e d = e ∙ ap yesNo (ap₂ eqb d (add-one n))
-
 returns : tie.Need-returns
 unfolding checkOf isMds
-returns c =
-    let branch = c .before .before .before .before .branch-number .ensures in
-    four branch (mds _ _ (c .before .before .before .before .before .args .n) _ (c .before .before .before .yes-no .ensures) branch)
-    (c .before .yes-no2 .ensures ∙ ap yesNo (c .before .before .involution .ensures)) (c .matrix-count .ensures)
+returns c = cc (add-one (c .before .before .before .before .before .args .n))
 
 pub check-spec : {M : Type 1} → statement M
 check-spec =

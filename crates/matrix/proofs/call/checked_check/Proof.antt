@@ -1,11 +1,7 @@
 -- `matrix::call::checked_check` meets its contract. Assumes nothing.
-use mathlib.Core.Path.{ap, _∙_}
-use Prim.Native.Nat.{_≤_}
-use Rattle.field.specs.Polynomial.{Modulus}
-use Rattle.field.specs.Outcome.{Answer, accepted}
-use Rattle.matrix.specs.Numbers.{entry, InField}
-use Rattle.matrix.specs.Answers.{checkOf, checkAt, checkAnswer}
-use Rattle.matrix.proofs.Judging.{modulus-fits, matrix-sound, matrix-passed, matrix-refused, check-judged-refused}
+use mathlib.Core.Path.{_∙_}
+use Rattle.field.proofs.Calls.{modulus-fits}
+use Rattle.matrix.proofs.CallFaults.{Sound, matrix-sound, call-refused, call-accepted}
 use borrow.Author.Needs.{needs}
 use Rattle.matrix.proofs.call.checked_check.Statement.{statement}
 use Rattle.matrix.proofs.call.checked_check.Tie as tie
@@ -23,32 +19,20 @@ enum-told : tie.Need-enum-told
 enum-told c = search needs
 
 -- nothing is refused
-sound : (c : tie.After-enum-told)
-    → let a = c .before .before .before .args in Modulus (a .p) × (1 ≤ a .n) × (a .n ≤ 8) × InField (a .p) (a .n) (a .n) (a .m)
-sound c =
-    let a = c .before .before .before .args in
-    matrix-sound _ (a .p) (a .n) (a .m) (c .before .before .matrix-fault .ensures) _ (c .enum-told .given .1)
+sound : (c : tie.After-enum-told) → let a = c .before .before .before .args in Sound (a .p) (a .n) (a .m)
+sound c = matrix-sound _ _ _ _ _ (c .before .before .matrix-fault .ensures) (c .enum-told .given .1)
 
 cast-check : tie.Need-cast-check
-cast-check c = record { fits = modulus-fits (sound c .0) }
+cast-check c = record { fits = modulus-fits (sound c .modulus) }
 
 check-requires : tie.Need-check-requires
-check-requires c κs = sound c
+check-requires c κs = let w = sound c in (w .modulus, w .low, w .high, w .values)
 
 returns : tie.Need-returns
-unfolding checkAnswer
-returns c =
-    let a = c .before .before .before .before .before .args in
-    c .no-check .ensures
-    ∙ check-judged-refused (checkOf (a .p) (a .n) (entry (a .m))) (c .before .before .r .given .0 .0) _
-    (matrix-refused _ (a .p) (a .n) (a .m) (c .before .before .before .before .matrix-fault .ensures) _ (c .before .before .r .given .1) (accepted 0))
+returns c = c .no-check .ensures ∙ call-refused _ _ (c .before .before .before .before .matrix-fault .ensures) _ _ _ (c .before .before .r .given .1)
 
 returns-2 : tie.Need-returns-2
-unfolding checkAnswer
-returns-2 c =
-    let a = c .before .before .before .before .args in
-    c .check .ensures
-    ∙ ap (λ (x : Answer). checkAt (x .number) (checkOf (a .p) (a .n) (entry (a .m)))) (matrix-passed _ (a .p) (a .n) (a .m) (c .before .before .before .matrix-fault .ensures) _ (c .before .enum-told .given .1) (accepted 0))
+returns-2 c = call-accepted _ _ (c .before .before .before .matrix-fault .ensures) _ _ (c .before .enum-told .given .1) (c .check .ensures)
 
 pub checked-check-spec : {M : Type 1} → statement M
 checked-check-spec =

@@ -1,17 +1,17 @@
 -- `matrix::call::checked_determinant` meets its contract: sizes 0 to 8. Assumes nothing.
-use mathlib.Core.Path.{ap, _∙_}
+use mathlib.Core.Path.{refl}
 use borrow.Author.Tests.{ltb-false}
 use lib.Dec.{ltb}
-use Rattle.field.specs.Outcome.{accepted}
 use Rattle.matrix.specs.Numbers.{entry}
-use Rattle.matrix.specs.Answers.{someEntryTooLarge, determinantAnswer}
-use Rattle.matrix.proofs.Judging.{Accepted, modulus-fits, entries-pass, when-accepted, when-refused, judged-passed}
+use Rattle.field.proofs.Calls.{modulus-fits}
+use Rattle.matrix.specs.Answers.{someEntryTooLarge}
+use Rattle.matrix.proofs.CallFaults.{Outcome-after, same-faults, accepted, matrix-alone, entries-pass, call-refused, call-accepted}
 use borrow.Author.Needs.{needs}
 use Rattle.matrix.proofs.call.checked_determinant.Statement.{statement}
 use Rattle.matrix.proofs.call.checked_determinant.Tie as tie
 
-block-fault-requires : tie.Need-block-fault-requires
-block-fault-requires c κs = search needs
+first-fault-requires : tie.Need-first-fault-requires
+first-fault-requires c κs = search needs
 
 enum-known-r : tie.Need-enum-known-r
 enum-known-r c = search needs
@@ -19,39 +19,33 @@ enum-known-r c = search needs
 enum-told : tie.Need-enum-told
 enum-told c = search needs
 
--- nothing is refused
-passed : (c : tie.After-enum-told)
-    → let a = c .before .before .before .args in Accepted (a .p) (ltb 8 (a .n)) (someEntryTooLarge (a .p) (a .n) (entry (a .m)))
-passed c =
-    let a = c .before .before .before .args in
-    when-accepted _ (a .p) (ltb 8 (a .n)) (someEntryTooLarge (a .p) (a .n) (entry (a .m))) (c .before .before .block-fault .ensures) _ (c .enum-told .given .1)
+-- the order and the values are judged as they are defined
+fault : (c : tie.After-first-fault)
+    → let a = c .before .args in Outcome-after (c .first-fault .result) (a .p) (ltb 8 (a .n)) (someEntryTooLarge (a .p) (a .n) (entry (a .m)))
+fault c = same-faults _ _ _ _ _ (c .first-fault .ensures) refl (matrix-alone _ _ _)
 
 cast-determinant : tie.Need-cast-determinant
-cast-determinant c = record { fits = modulus-fits (passed c .modulus) }
+cast-determinant c = record { fits = modulus-fits (accepted _ _ _ _ _ (fault (c .before .before)) (c .enum-told .given .1) .modulus) }
 
 determinant-requires : tie.Need-determinant-requires
 determinant-requires c κs =
-    let a = c .before .before .before .args in
-    (passed c .modulus, ltb-false 8 (a .n) (passed c .order), entries-pass (a .p) (a .n) (a .m) (passed c .values))
+    let a = accepted _ _ _ _ _ (fault (c .before .before)) (c .enum-told .given .1) in
+    (a .modulus, ltb-false 8 _ (a .order), entries-pass _ _ _ (a .values))
 
 cast-t11 : tie.Need-cast-t11
 cast-t11 c = search needs
 
 returns : tie.Need-returns
-unfolding determinantAnswer
-returns c =
-    let a = c .before .before .before .before .args in
-    when-refused _ (a .p) (ltb 8 (a .n)) (someEntryTooLarge (a .p) (a .n) (entry (a .m))) (c .before .before .before .block-fault .ensures) _ (c .before .r .given .1) _
+returns c = call-refused _ _ (fault (c .before .before .before)) _ _ _ (c .before .r .given .1)
 
 returns-2 : tie.Need-returns-2
-unfolding determinantAnswer
-returns-2 c = ap accepted (c .determinant .ensures) ∙ judged-passed _ _ _ _ (passed (c .before))
+returns-2 c = call-accepted _ _ (fault (c .before .before .before)) _ _ (c .before .enum-told .given .1) (c .determinant .ensures)
 
 pub checked-determinant-spec : {M : Type 1} → statement M
 checked-determinant-spec =
     tie.close
     (tie.spec
-    block-fault-requires
+    first-fault-requires
     enum-known-r
     enum-told
     cast-determinant

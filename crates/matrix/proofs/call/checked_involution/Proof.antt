@@ -1,10 +1,8 @@
--- `matrix::call::checked_involution` meets its contract: the test is the answer where nothing is refused. Assumes nothing.
+-- `matrix::call::checked_involution` meets its contract. Assumes nothing.
 use mathlib.Core.Path.{ap, _∙_}
-use Prim.Native.Nat.{_≤_}
-use Rattle.field.specs.Polynomial.{Modulus}
-use Rattle.matrix.specs.Numbers.{InField}
-use Rattle.matrix.specs.Answers.{yesNo, involutionAnswer}
-use Rattle.matrix.proofs.Judging.{modulus-fits, matrix-sound, matrix-answer, matrix-refused}
+use Rattle.field.proofs.Calls.{modulus-fits}
+use Rattle.matrix.specs.Answers.{yesNo}
+use Rattle.matrix.proofs.CallFaults.{Sound, matrix-sound, call-refused, call-accepted}
 use borrow.Author.Needs.{needs}
 use Rattle.matrix.proofs.call.checked_involution.Statement.{statement}
 use Rattle.matrix.proofs.call.checked_involution.Tie as tie
@@ -19,33 +17,23 @@ enum-told : tie.Need-enum-told
 enum-told c = search needs
 
 -- nothing is refused
-sound : (c : tie.After-enum-told)
-    → let a = c .before .before .before .args in Modulus (a .p) × (1 ≤ a .n) × (a .n ≤ 8) × InField (a .p) (a .n) (a .n) (a .m)
-sound c =
-    let a = c .before .before .before .args in
-    matrix-sound _ (a .p) (a .n) (a .m) (c .before .before .matrix-fault .ensures) _ (c .enum-told .given .1)
+sound : (c : tie.After-enum-told) → let a = c .before .before .before .args in Sound (a .p) (a .n) (a .m)
+sound c = matrix-sound _ _ _ _ _ (c .before .before .matrix-fault .ensures) (c .enum-told .given .1)
 
 cast-involution : tie.Need-cast-involution
-cast-involution c = record { fits = modulus-fits (sound c .0) }
+cast-involution c = record { fits = modulus-fits (sound c .modulus) }
 
 involution-requires : tie.Need-involution-requires
-involution-requires c κs = let w = sound c in (w .0, w .2, w .3)
+involution-requires c κs = let w = sound c in (w .modulus, w .high, w .values)
 
 yes-no-requires : tie.Need-yes-no-requires
 yes-no-requires c κs = search needs
 
 returns : tie.Need-returns
-unfolding involutionAnswer
-returns c =
-    let a = c .before .before .before .before .args in
-    matrix-refused _ (a .p) (a .n) (a .m) (c .before .before .before .matrix-fault .ensures) _ (c .before .r .given .1) _
+returns c = call-refused _ _ (c .before .before .before .matrix-fault .ensures) _ _ _ (c .before .r .given .1)
 
 returns-2 : tie.Need-returns-2
-unfolding involutionAnswer
-returns-2 c =
-    let a = c .before .before .before .before .before .args in
-    matrix-answer _ (a .p) (a .n) (a .m) (c .before .before .before .before .matrix-fault .ensures) _ (c .before .before .enum-told .given .1)
-    (c .yes-no .ensures ∙ ap yesNo (c .before .involution .ensures))
+returns-2 c = call-accepted _ _ (c .before .before .before .before .matrix-fault .ensures) _ _ (c .before .before .enum-told .given .1) (c .yes-no .ensures ∙ ap yesNo (c .before .involution .ensures))
 
 pub checked-involution-spec : {M : Type 1} → statement M
 checked-involution-spec =

@@ -1,15 +1,11 @@
 -- `matrix::call::checked_mds` meets its contract: where every square block is regular, the matrix is MDS. Assumes nothing.
-use mathlib.Core.Path.{_≡_, sym, ap, _∙_}
-use Prim.Native.Nat.{_≤_}
-use Rattle.field.specs.Polynomial.{Modulus}
 use native.Mathlib.Nat.{le-refl}
 use lib.Dec.{lit≤}
-use Rattle.matrix.specs.Numbers.{numbers, elements, entry, InField}
-use Rattle.matrix.specs.Regular.{regularUpTo}
-use Rattle.algebra.specs.Matrix.{isMds}
-use Rattle.matrix.specs.Answers.{yesNo, mdsAnswer}
-use Rattle.matrix.proofs.Judging.{modulus-fits, matrix-sound, matrix-answer, matrix-refused}
+use Rattle.matrix.specs.Numbers.{entry}
+use Rattle.matrix.specs.Steps.Conditions.{InField}
 use Rattle.matrix.proofs.Theorems.{mds-is-regular}
+use Rattle.field.proofs.Calls.{modulus-fits}
+use Rattle.matrix.proofs.CallFaults.{Sound, matrix-sound, call-refused, call-accepted}
 use borrow.Author.Needs.{needs}
 use Rattle.matrix.proofs.call.checked_mds.Statement.{statement}
 use Rattle.matrix.proofs.call.checked_mds.Tie as tie
@@ -24,42 +20,28 @@ enum-told : tie.Need-enum-told
 enum-told c = search needs
 
 -- nothing is refused
-sound : (c : tie.After-enum-told)
-    → let a = c .before .before .before .args in Modulus (a .p) × (1 ≤ a .n) × (a .n ≤ 8) × InField (a .p) (a .n) (a .n) (a .m)
-sound c =
-    let a = c .before .before .before .args in
-    matrix-sound _ (a .p) (a .n) (a .m) (c .before .before .matrix-fault .ensures) _ (c .enum-told .given .1)
-
--- the square-block test is the definition's
-regular : (c : tie.After-enum-told)
-    → let a = c .before .before .before .args in regularUpTo (numbers (a .p)) (a .n) (entry (a .m)) 1 (a .n) ≡ isMds (numbers (a .p)) (elements (a .p)) (a .n) (entry (a .m))
-unfolding InField
-regular c =
-    let w = sound c in
-    let a = c .before .before .before .args in
-    sym (mds-is-regular (a .p) (w .0) (a .n) _ (w .3) (w .1))
+sound : (c : tie.After-enum-told) → let a = c .before .before .before .args in Sound (a .p) (a .n) (a .m)
+sound c = matrix-sound _ _ _ _ _ (c .before .before .matrix-fault .ensures) (c .enum-told .given .1)
 
 cast-regular-up-to : tie.Need-cast-regular-up-to
-cast-regular-up-to c = record { fits = modulus-fits (sound c .0) }
+cast-regular-up-to c = record { fits = modulus-fits (sound c .modulus) }
 
 regular-up-to-requires : tie.Need-regular-up-to-requires
-regular-up-to-requires c κs = let w = sound c in (w .0, w .2, le-refl _, lit≤ tt, lit≤ tt, w .3)
+regular-up-to-requires c κs = let w = sound c in (w .modulus, w .high, le-refl _, lit≤ tt, lit≤ tt, w .values)
 
 yes-no-requires : tie.Need-yes-no-requires
 yes-no-requires c κs = search needs
 
 returns : tie.Need-returns
-unfolding mdsAnswer
-returns c =
-    let a = c .before .before .before .before .args in
-    matrix-refused _ (a .p) (a .n) (a .m) (c .before .before .before .matrix-fault .ensures) _ (c .before .r .given .1) _
+returns c = call-refused _ _ (c .before .before .before .matrix-fault .ensures) _ _ _ (c .before .r .given .1)
 
 returns-2 : tie.Need-returns-2
-unfolding mdsAnswer
+unfolding InField
 returns-2 c =
     let a = c .before .before .before .before .before .args in
-    matrix-answer _ (a .p) (a .n) (a .m) (c .before .before .before .before .matrix-fault .ensures) _ (c .before .before .enum-told .given .1)
-    (c .yes-no .ensures ∙ ap yesNo (c .before .regular-up-to .ensures ∙ regular (c .before .before)))
+    let w = sound (c .before .before) in
+    call-accepted _ _ (c .before .before .before .before .matrix-fault .ensures) _ _ (c .before .before .enum-told .given .1)
+    (cc (mds-is-regular (a .p) (w .modulus) (a .n) (entry (a .m)) (w .values) (w .low)))
 
 pub checked-mds-spec : {M : Type 1} → statement M
 checked-mds-spec =

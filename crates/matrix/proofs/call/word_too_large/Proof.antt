@@ -1,15 +1,14 @@
--- `matrix::call::word_too_large` meets its contract: none of the first j words is too large. Assumes nothing.
-use mathlib.Core.Path.{_≡_, refl, sym, _∙_}
-use mathlib.Core.Bool.{Bool, false}
+-- `matrix::call::word_too_large` meets its contract: the first j words are looked at. Assumes nothing.
+use mathlib.Core.Path.{_≡_, refl}
+use mathlib.Core.Bool.{Bool}
 use mathlib.Core.List.{List}
 use Prim.Native.Nat.{ℕ, _-_, _≤_, zero-le}
 use native.Mathlib.Omega.{arith}
 use lib.ListN.{getD}
-use Rattle.field.specs.Outcome.{isTooLarge}
 use Rattle.field.specs.Polynomial.{someBelow}
+use Rattle.field.specs.Faults.{isTooLarge}
 use Rattle.matrix.specs.Answers.{someWordTooLarge}
-use Rattle.field.proofs.Irreducibility.{some-there}
-use Rattle.matrix.proofs.Judging.{some-next}
+use Rattle.matrix.proofs.CallFaults.{some-next}
 use borrow.Author.Needs.{needs}
 use Rattle.matrix.proofs.call.word_too_large.Statement.{statement}
 use Rattle.matrix.proofs.call.word_too_large.Tie as tie
@@ -19,10 +18,10 @@ abbrev test : ℕ → List ℕ → ℕ → Bool
 test p row j = isTooLarge p (getD row j 0)
 
 abbrev Inv-loop : tie.InvT-loop
-Inv-loop p n row j₀ j = (j ≤ n) × (someBelow j (test p row) ≡ false)
+Inv-loop p n row large₀ j₀ large j = (j ≤ n) × (large ≡ someBelow j (test p row))
 
 abbrev μ-loop : tie.MeasureT-loop
-μ-loop p n row j₀ j = n - j
+μ-loop p n row large₀ j₀ large j = n - j
 
 loop-holds : tie.Need-loop-holds Inv-loop μ-loop
 unfolding someBelow
@@ -37,12 +36,6 @@ cast-too-large c = search needs
 too-large-requires : tie.Need-too-large-requires Inv-loop μ-loop
 too-large-requires c κs = search needs
 
-returns : tie.Need-returns Inv-loop μ-loop
-unfolding someWordTooLarge
-returns c =
-    let a = c .before .before .before .before .args in
-    sym (some-there (a .n) (test (a .p) (a .t2)) (c .before .before .before .loop .j) (c .before .before .loop-test .taken) (sym (c .before .too-large .ensures) ∙ c .if1 .taken))
-
 add-j : tie.Need-add-j Inv-loop μ-loop
 add-j c = search needs
 
@@ -51,14 +44,13 @@ loop-less c = search needs
 
 loop-again : tie.Need-loop-again Inv-loop μ-loop
 loop-again c =
-    let a = c .before .before .before .before .args in
-    (omega (arith, c .before .before .loop-test .taken), some-next (c .before .before .before .loop .j) (test (a .p) (a .t2)) (c .before .before .before .loop .inv .1) (sym (c .before .too-large .ensures) ∙ c .if1 .left))
+    let a = c .before .before .before .args in
+    let l = c .before .before .loop in
+    (omega (arith, c .before .loop-test .taken), some-next (l .j) (test (a .p) (a .t2)) (c .too-large .ensures) (l .inv .1))
 
-returns-2 : tie.Need-returns-2 Inv-loop μ-loop
+returns : tie.Need-returns Inv-loop μ-loop
 unfolding someWordTooLarge
-returns-2 c =
-    let last : c .before .loop .j ≡ c .before .before .args .n = omega arith in
-    sym (rw last at (c .before .loop .inv .1))
+returns c = let last : c .before .loop .j ≡ c .before .before .args .n = omega arith in rw last at (c .before .loop .inv .1)
 
 pub word-too-large-spec : {M : Type 1} → statement M
 word-too-large-spec =
@@ -70,8 +62,7 @@ word-too-large-spec =
     array-read-too-large
     cast-too-large
     too-large-requires
-    returns
     add-j
     loop-less
     loop-again
-    returns-2)
+    returns)

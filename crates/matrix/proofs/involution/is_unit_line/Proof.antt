@@ -8,10 +8,9 @@ use borrow.Author.Count.{below-more}
 use borrow.Author.Tests.{eq-eqb, ne-eqb}
 use lib.Dec.{eqb}
 use borrow.Author.Needs.{needs}
-use Rattle.matrix.specs.Identity.{unit, squareEntry, isUnitLine}
+use Rattle.matrix.specs.Steps.Identity.{unit, squareEntry, isUnitLine}
 use Rattle.matrix.specs.Numbers.{entry}
-use Rattle.matrix.proofs.Squares.{each-every}
-use Rattle.matrix.proofs.Units.{every-not}
+use Rattle.matrix.proofs.Squares.{each-every, every-not}
 use Rattle.matrix.proofs.involution.is_unit_line.Statement.{statement}
 use Rattle.matrix.proofs.involution.is_unit_line.Tie as tie
 

@@ -2,7 +2,7 @@
 use mathlib.Core.Path.{sym, ap}
 use mathlib.Core.Bool.{Bool, cond}
 use borrow.Author.Tests.{eq-eqb, ne-eqb}
-use Rattle.matrix.specs.Identity.{unit}
+use Rattle.matrix.specs.Steps.Identity.{unit}
 use Rattle.matrix.proofs.involution.unit.Statement.{statement}
 use Rattle.matrix.proofs.involution.unit.Tie as tie
 

@@ -4,7 +4,8 @@ use Prim.Native.Nat.{_-_, _≤_, zero-le}
 use native.Mathlib.Omega.{arith}
 use lib.ListN.{getD}
 use Rattle.algebra.specs.Matrix.{tabulate}
-use Rattle.matrix.proofs.Filled.{filled, filled-more}
+use Rattle.matrix.specs.Steps.Blocks.{filled}
+use Rattle.matrix.proofs.Filled.{filled-more}
 use Rattle.field.specs.Polynomial.{_⊕_}
 use borrow.Author.Needs.{needs}
 use Rattle.matrix.proofs.multiply.added.Statement.{statement}

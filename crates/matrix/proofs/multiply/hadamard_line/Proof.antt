@@ -5,7 +5,8 @@ use native.Mathlib.Nat.{lt-of-lt-of-le}
 use native.Mathlib.Omega.{arith}
 use lib.ListN.{getD}
 use Rattle.algebra.specs.Matrix.{tabulate}
-use Rattle.matrix.proofs.Filled.{filled, filled-more}
+use Rattle.matrix.specs.Steps.Blocks.{filled}
+use Rattle.matrix.proofs.Filled.{filled-more}
 use lib.Bits.{bitXor}
 use Rattle.matrix.proofs.Halving.{exponent, xor-below}
 use borrow.Author.Needs.{needs}

@@ -1,12 +1,13 @@
 -- `matrix::multiply::hadamard_matrix` meets its contract: after i turns the first i lines are stored. Assumes nothing.
 use mathlib.Core.Path.{_≡_, refl}
-use mathlib.Core.List.{List, []}
+use mathlib.Core.List.{List}
 use Prim.Native.Nat.{ℕ, _-_, _≤_, zero-le}
 use native.Mathlib.Omega.{arith}
 use lib.Bits.{bitXor}
 use lib.ListN.{getD, replicate}
-use Rattle.algebra.specs.Matrix.{tabulate, hadamard}
-use Rattle.matrix.proofs.Filled.{filled, getD-filled, filled-more}
+use Rattle.algebra.specs.Matrix.{tabulate}
+use Rattle.matrix.specs.Steps.Blocks.{filled, framed}
+use Rattle.matrix.proofs.Filled.{filled-more}
 use Rattle.matrix.proofs.Halving.{exponent}
 use borrow.Author.Needs.{needs}
 use Rattle.matrix.proofs.multiply.hadamard_matrix.Statement.{statement}
@@ -50,12 +51,10 @@ loop-again c =
     )
 
 returns : tie.Need-returns Inv-loop μ-loop
-unfolding hadamard
+unfolding framed
 returns c =
-    let row = c .before .before .args .row in
-    let n = c .before .before .args .n in
     let last : c .before .loop .i ≡ c .before .before .args .n = omega arith in
-    λ p i j l m. rw (c .before .loop .inv .1, last, getD-filled (replicate 8 0) (line row n) n i l []) (getD-filled 0 (λ j. getD row (bitXor i j) 0) n j m 0)
+    rw last at (c .before .loop .inv .1)
 
 pub hadamard-matrix-spec : {M : Type 1} → statement M
 hadamard-matrix-spec =

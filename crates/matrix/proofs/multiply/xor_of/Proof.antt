@@ -1,24 +1,23 @@
 -- `matrix::multiply::xor_of` meets its contract: after i turns the first i words are added. Assumes nothing.
 use mathlib.Core.Path.{_≡_, refl}
-use Prim.Native.Nat.{ℕ, _-_, _≤_, zero-le}
+use mathlib.Core.List.{foldl}
+use Prim.Native.Nat.{_-_, _≤_, zero-le}
 use native.Mathlib.Omega.{arith}
-use lib.ListN.{getD}
-use Rattle.algebra.specs.Matrix.{sum}
-use Rattle.matrix.specs.Numbers.{numbers}
-use Rattle.matrix.proofs.Filled.{sum-more}
+use lib.ListN.{take}
+use Rattle.field.specs.Polynomial.{_⊕_}
+use Rattle.matrix.proofs.Filled.{xor-more}
 use borrow.Author.Needs.{needs}
 use Rattle.matrix.proofs.multiply.xor_of.Statement.{statement}
 use Rattle.matrix.proofs.multiply.xor_of.Tie as tie
 
 abbrev Inv-loop : tie.InvT-loop
-Inv-loop n row r₀ i₀ r i = (i ≤ n) × ((p : ℕ) → r ≡ sum (numbers p) i (λ i. getD row i 0))
+Inv-loop n row r₀ i₀ r i = (i ≤ n) × (r ≡ foldl _⊕_ 0 (take i row))
 
 abbrev μ-loop : tie.MeasureT-loop
 μ-loop n row r₀ i₀ r i = n - i
 
 loop-holds : tie.Need-loop-holds Inv-loop μ-loop
-unfolding sum
-loop-holds c = (zero-le, λ p. refl)
+loop-holds c = (zero-le, refl)
 
 array-read-r : tie.Need-array-read-r Inv-loop μ-loop
 array-read-r c = search needs
@@ -30,7 +29,7 @@ loop-less : tie.Need-loop-less Inv-loop μ-loop
 loop-less c = search needs
 
 loop-again : tie.Need-loop-again Inv-loop μ-loop
-loop-again c = (omega arith, λ p. sum-more p (c .before .loop .i) _ (c .before .loop .r) _ (c .before .loop .inv .1 p) refl)
+loop-again c = (omega arith, xor-more _ (c .before .loop .i) (c .before .loop .r) (search needs) (c .before .loop .inv .1))
 
 returns : tie.Need-returns Inv-loop μ-loop
 returns c =

@@ -1,5 +1,4 @@
 -- `search::front::some_too_large` meets its contract. Assumes nothing.
-use Rattle.search.proofs.Start.{field-most}
 use Rattle.search.proofs.Refusals.{test-none, test-found, test-next, large-here, large-none, large-true, large-false}
 use mathlib.Core.Path.{_≡_, refl}
 use Prim.Native.Nat.{_-_, _≤_, zero-le}
@@ -9,6 +8,7 @@ use Rattle.search.specs.Answer.{someTooLarge}
 use borrow.Author.Needs.{needs}
 use Rattle.search.proofs.front.some_too_large.Statement.{statement}
 use Rattle.search.proofs.front.some_too_large.Tie as tie
+use Rattle.field.proofs.Calls.{elements-most}
 
 abbrev Inv-loop : tie.InvT-loop
 Inv-loop p values end i₀ i = (i ≤ length values) × (someTooLarge p values ≡ someTooLarge p (drop i values))
@@ -20,7 +20,7 @@ size-requires : tie.Need-size-requires Inv-loop μ-loop
 size-requires c κs = search needs
 
 cast-end : tie.Need-cast-end Inv-loop μ-loop
-cast-end c = record { fits = omega (arith, c .size .ensures, field-most (c .before .before .args .p) (c .before .before .pre)) }
+cast-end c = record { fits = omega (arith, c .size .ensures, elements-most (c .before .before .args .p) (c .before .before .pre)) }
 
 loop-holds : tie.Need-loop-holds Inv-loop μ-loop
 loop-holds c = (zero-le, refl)

@@ -1,0 +1,2 @@
+-- The definitions that the contracts of every crate cite. To be believed: all.
+pub mod Refusals
