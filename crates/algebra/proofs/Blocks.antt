@@ -9,8 +9,7 @@ use native.Mathlib.Omega.{arith}
 use lib.ListN.{length, getD, length-map}
 use Rattle.algebra.specs.Operations.{Operations}
 use Rattle.algebra.proofs.FieldLaws.{Field}
-use Rattle.algebra.specs.Matrix.{sum, weight, activity, apply, det}
-use Rattle.algebra.specs.Steps.{block, chosen, hasKernel}
+use Rattle.algebra.specs.Matrix.{sum, weight, activity, apply, det, block, chosen, hasKernel}
 use Rattle.algebra.proofs.Rectangles.{dot, Kernel, sum-word}
 use Rattle.algebra.proofs.Words.{getD-tabulate}
 use Rattle.algebra.proofs.Weights.{weight-le, length-apply}

@@ -10,8 +10,7 @@ use lib.Bits.{bitXor}
 use lib.Dec.{eqb, ltb}
 use lib.ListN.{getD, List·getD-map}
 use Rattle.algebra.specs.Operations.{Operations}
-use Rattle.algebra.specs.Matrix.{tabulate, before, words, sum, apply, applyTo, hadamard, skip, without, det, weight, activity, leastActivity, branchNumber, isMds, sameWords, givesBack, isInvolution}
-use Rattle.algebra.specs.Steps.{someToZero, hasKernel}
+use Rattle.algebra.specs.Matrix.{tabulate, before, words, sum, apply, applyTo, hadamard, skip, without, det, weight, activity, leastActivity, branchNumber, isMds, sameWords, givesBack, isInvolution, someToZero, hasKernel}
 use Rattle.algebra.proofs.Words.{oneUnless}
 use Rattle.algebra.proofs.Words.{tabulate-cong}
 

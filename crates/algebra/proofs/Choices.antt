@@ -8,8 +8,7 @@ use native.Mathlib.Omega.{arith}
 use lib.ListN.{length, getD}
 use Rattle.algebra.specs.Operations.{Operations}
 use Rattle.algebra.proofs.FieldLaws.{Field}
-use Rattle.algebra.specs.Matrix.{weight}
-use Rattle.algebra.specs.Steps.{placesFrom, chosen, atDigit}
+use Rattle.algebra.specs.Matrix.{weight, placesFrom, chosen, atDigit}
 use Rattle.algebra.proofs.Words.{oneUnless}
 use Rattle.algebra.proofs.Laws.{times-null, null-plus}
 use Rattle.algebra.proofs.Rectangles.{dot, weight-null, weight-cons-le}

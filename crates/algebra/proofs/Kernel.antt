@@ -11,8 +11,8 @@ use lib.Dec.{eqb, ltb}
 use borrow.Author.Tests.{ltb-true, lt-ltb, eqb-true, eq-eqb}
 use Rattle.algebra.specs.Operations.{Operations}
 use Rattle.algebra.proofs.FieldLaws.{Field}
-use Rattle.algebra.specs.Matrix.{tabulate, words, apply, applyTo, skip, det, weight}
-use Rattle.algebra.specs.Steps.{someToZero, hasKernel, cleared}
+use Rattle.algebra.specs.Matrix.{tabulate, words, apply, applyTo, skip, det, weight, someToZero, hasKernel}
+use Rattle.algebra.specs.Steps.{cleared}
 use Rattle.algebra.proofs.Bridge.{Homomorphism}
 use Rattle.algebra.proofs.Laws.{ring, equal-of-null, plus-comm, times-null-only}
 use Rattle.algebra.proofs.Rectangles.{dot, Kernel, dot-linear, dot-scaled, dot-weightless, weight-nulls, weight-scaled}

@@ -1,11 +1,11 @@
 -- Matrices over a field, in the words of document 01. A matrix is the function that gives its entry at line i, column j;
 -- an input is the list of its words. `K` holds the field's operations, and `elements` lists the field's elements.
 -- Assumes nothing.
-use mathlib.Core.Bool.{Bool, true, false, cond, _&&_}
+use mathlib.Core.Bool.{Bool, true, false, cond, _&&_, _||_}
 use mathlib.Core.List.{List, [], _∷_, _++_, map}
-use Prim.Native.Nat.{ℕ, zero, suc, _+_, min}
+use Prim.Native.Nat.{ℕ, zero, suc, _+_, _/_, _%_, min}
 use lib.Bits.{bitXor}
-use lib.Dec.{eqb}
+use lib.Dec.{eqb, ltb}
 use lib.ListN.{getD}
 use Rattle.algebra.specs.Operations.{Operations}
 
@@ -66,6 +66,24 @@ unfoldable pub det : (K : Operations) → ℕ → (ℕ → ℕ → K .Element) �
 det K zero f = K .one
 det K (suc n) f = sum K (suc n) (λ j. K .times (f 0 j) (det K n (without f j)))
 
+-- a place, where its digit is 1, before the rest
+abbrev pub atDigit : ℕ → ℕ → List ℕ → List ℕ
+atDigit zero i rest = rest
+atDigit (suc d) i rest = i ∷ rest
+
+-- the places of the ones among the n lowest digits of a mask, ascending, counted from i
+unfoldable pub placesFrom : ℕ → ℕ → ℕ → List ℕ
+placesFrom i zero mask = []
+placesFrom i (suc n) mask = atDigit (mask % 2) i (placesFrom (suc i) n (mask / 2))
+
+-- a choice of lines, or of columns, of a matrix of order n: the places of the ones of a mask
+unfoldable pub chosen : ℕ → ℕ → List ℕ
+chosen n mask = placesFrom 0 n mask
+
+-- the block of the chosen lines and columns
+unfoldable pub block : {A : Type 0} → (ℕ → ℕ → A) → List ℕ → List ℕ → ℕ → ℕ → A
+block f lines columns i j = f (getD lines i 0) (getD columns j 0)
+
 -- ---- the branch number
 
 -- how many words are not zero
@@ -94,6 +112,17 @@ branchNumber K elements n f = leastActivity K n f (words elements n)
 -- MDS: the branch number is the order plus one
 unfoldable pub isMds : (K : Operations) → List (K .Element) → ℕ → (ℕ → ℕ → K .Element) → Bool
 isMds K elements n f = eqb (branchNumber K elements n f) (suc n)
+
+-- ---- the kernel
+
+-- some of the inputs is not zero and goes to zero in all r lines
+unfoldable pub someToZero : (K : Operations) → ℕ → ℕ → (ℕ → ℕ → K .Element) → List (List (K .Element)) → Bool
+someToZero K c r f [] = false
+someToZero K c r f (x ∷ xs) = (ltb 0 (weight K x) && eqb (weight K (applyTo K r c f x)) 0) || someToZero K c r f xs
+
+-- a kernel: some nonzero input of c words goes to zero in all r lines
+unfoldable pub hasKernel : (K : Operations) → List (K .Element) → ℕ → ℕ → (ℕ → ℕ → K .Element) → Bool
+hasKernel K elements c r f = someToZero K c r f (words elements c)
 
 -- ---- the involution
 

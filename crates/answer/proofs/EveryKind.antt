@@ -1,5 +1,5 @@
 -- The table of kinds: what holds of every kind, and of a number that no kind has, holds of the kind of every text. Assumes nothing.
-use mathlib.Core.Path.{_≡_, refl, sym, ap, _∙_}
+use mathlib.Core.Path.{_≡_, refl, sym, _∙_}
 use mathlib.Core.Logic.{_⊎_, inl, inr, ⊎-elim}
 use mathlib.Core.Bool.{Bool, true, false, cond}
 use mathlib.Core.List.{List, [], _∷_}
@@ -7,8 +7,8 @@ use Prim.Native.Nat.{ℕ}
 use native.Mathlib.Omega.{arith}
 use lib.Dec.{eqb}
 use borrow.Author.Tests.{eqb-true}
-use Rattle.refusal.specs.Refusals.{fault, firstNumber, Applies, Answer}
-use Rattle.refusal.proofs.Faults.{first-passed, numbered, ascends, lacks, lacks-applies, after-number-is, after-value, after-number}
+use Rattle.refusal.specs.Refusals.{fault, firstNumber, Applies}
+use Rattle.refusal.proofs.Faults.{first-passed, numbered, ascends, lacks, lacks-applies, after-number-is, after-value}
 use Rattle.field.specs.Faults.{polynomialFaults}
 use Rattle.search.specs.Answer.{searchFaults}
 use Rattle.text.specs.Reading.{kindOf}
@@ -102,8 +102,3 @@ due-lines-of text e = after-value [] _ (faultsOf text) (sym (due-number text) �
 pub due-passed : (text : List ℕ) → due text .number ≡ 0 → firstNumber (kindIn text .faults (requestIn text)) ≡ 0
 unfolding faultsOf
 due-passed text e = first-passed 1 0 _ _ (λ h. omega arith) (sym (due-number text) ∙ e) .1
-
--- a refusal has no lines
-pub due-empty : (text : List ℕ) → (due text .number ≡ 0 → ⊥) → due text .value ≡ []
-unfolding due
-due-empty text h = ap (λ (a : Answer (List (List ℕ))). a .value) (sym (after-number [] _ (faultsOf text) (due text .number) (sym (due-number text)) h))

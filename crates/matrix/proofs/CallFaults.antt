@@ -19,8 +19,7 @@ use Rattle.refusal.proofs.Faults.{number-not-zero, first-passed, after-none, af
 use Rattle.field.specs.Polynomial.{Modulus, degree, someBelow}
 use Rattle.field.specs.Faults.{isTooLarge}
 use Rattle.field.proofs.Calls.{not-too-large, modulus-parts}
-use Rattle.matrix.specs.Numbers.{entry}
-use Rattle.matrix.specs.Steps.Conditions.{InField, WordsInField, HalvingOrder}
+use Rattle.matrix.specs.Numbers.{entry, InField, WordsInField, HalvingOrder}
 use Rattle.matrix.specs.Answers.{isWrongOrder, isWrongHalvedOrder, someWordTooLarge, someEntryTooLarge, valueFaults, matrixFaults}
 use Rattle.matrix.specs.Steps.Calls.{someValueTooLarge}
 

@@ -8,8 +8,8 @@ use native.Mathlib.Nat.{not-suc-le-zero, eq-or-lt-of-le}
 use native.Mathlib.Omega.{arith}
 use borrow.Author.Tests.{eqb-true, not-true, not-false}
 use lib.Dec.{eqb}
-use Rattle.algebra.specs.Matrix.{skip}
-use Rattle.algebra.specs.Steps.{hasKernel, clearedLine, cleared}
+use Rattle.algebra.specs.Matrix.{skip, hasKernel}
+use Rattle.algebra.specs.Steps.{clearedLine, cleared}
 use Rattle.algebra.proofs.Bridge.{hasKernel-cong}
 use Rattle.algebra.proofs.Kernel.{hasKernel-empty}
 use Rattle.field.specs.Polynomial.{Modulus, degree, product, firstBelow}
@@ -17,8 +17,7 @@ use Rattle.field.proofs.Sum.{sum-lt}
 use Rattle.field.proofs.Degrees.{polynomial}
 use Rattle.field.proofs.Field.{times-lt}
 use Rattle.field.proofs.Inverses.{first-le, first-before, first-there}
-use Rattle.matrix.specs.Numbers.{numbers, elements, entry}
-use Rattle.matrix.specs.Steps.Conditions.{InField}
+use Rattle.matrix.specs.Numbers.{numbers, elements, entry, InField}
 use Rattle.matrix.specs.Steps.Blocks.{filled, framed}
 use Rattle.matrix.proofs.Filled.{entry-of}
 use Rattle.matrix.proofs.Theorems.{kernel-free, kernel-step}

@@ -15,8 +15,7 @@ use Rattle.field.specs.Polynomial.{_⊕_, Modulus, degree, product}
 use Rattle.field.proofs.Sum.{sum-zero-l, sum-zero-r, sum-comm, sum-assoc, sum-self, sum-lt}
 use Rattle.field.proofs.Degrees.{polynomial}
 use Rattle.field.proofs.Field.{times-sum-l, times-sum-r}
-use Rattle.matrix.specs.Numbers.{numbers}
-use Rattle.matrix.specs.Steps.Conditions.{WordsInField, HalvingOrder}
+use Rattle.matrix.specs.Numbers.{numbers, WordsInField, HalvingOrder}
 use Rattle.matrix.specs.Steps.Blocks.{filled}
 use Rattle.matrix.proofs.Filled.{getD-filled}
 

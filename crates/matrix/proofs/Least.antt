@@ -8,8 +8,7 @@ use native.Mathlib.Nat.{le-refl, le-trans, le-antisymm, not-suc-le-zero, le-of-s
 use native.Mathlib.Omega.{arith}
 use lib.ListN.{length, getD}
 use Rattle.algebra.specs.Operations.{Operations}
-use Rattle.algebra.specs.Matrix.{branchNumber}
-use Rattle.algebra.specs.Steps.{chosen, block, hasKernel}
+use Rattle.algebra.specs.Matrix.{branchNumber, chosen, block, hasKernel}
 use Rattle.algebra.proofs.Choices.{chosen-length}
 use Rattle.field.specs.Polynomial.{Modulus, degree}
 use Rattle.matrix.specs.Numbers.{numbers, elements}

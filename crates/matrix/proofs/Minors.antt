@@ -15,8 +15,7 @@ use Rattle.field.specs.Polynomial.{Modulus, degree, product, _⊕_}
 use Rattle.field.proofs.Sum.{sum-zero-l}
 use Rattle.field.proofs.Degrees.{polynomial}
 use Rattle.field.proofs.Field.{times-one-r}
-use Rattle.matrix.specs.Numbers.{numbers, entry}
-use Rattle.matrix.specs.Steps.Conditions.{InField}
+use Rattle.matrix.specs.Numbers.{numbers, entry, InField}
 use Rattle.matrix.specs.Steps.Blocks.{framed}
 use Rattle.matrix.proofs.Filled.{entry-of}
 

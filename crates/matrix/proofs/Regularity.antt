@@ -13,13 +13,11 @@ use lib.Count.{ones}
 use lib.Dec.{eqb, leb}
 use lib.Pow.{pow-mono}
 use lib.ListN.{length, getD, replicate}
-use Rattle.algebra.specs.Matrix.{det}
-use Rattle.algebra.specs.Steps.{chosen, block}
+use Rattle.algebra.specs.Matrix.{det, chosen, block}
 use Rattle.algebra.proofs.Sums.{le-or-lt}
 use Rattle.algebra.proofs.Bridge.{det-cong}
 use Rattle.algebra.proofs.Choices.{chosen-lt}
-use Rattle.matrix.specs.Numbers.{numbers, entry}
-use Rattle.matrix.specs.Steps.Conditions.{InField}
+use Rattle.matrix.specs.Numbers.{numbers, entry, InField}
 use Rattle.field.specs.Polynomial.{firstBelow}
 use Rattle.field.proofs.Inverses.{first-at, first-before, first-there}
 use Rattle.matrix.specs.Steps.Regular.{isRegularBlock, regularOfSize}

@@ -15,8 +15,7 @@ use lib.Pow.{pow-pos, pow-mono}
 use borrow.Author.Tests.{eqb-true, eqb-false, eq-eqb}
 use Rattle.algebra.specs.Operations.{Operations}
 use Rattle.algebra.proofs.FieldLaws.{Field}
-use Rattle.algebra.specs.Matrix.{tabulate, upTo, apply, weight, det, branchNumber, isMds, isInvolution}
-use Rattle.algebra.specs.Steps.{hasKernel}
+use Rattle.algebra.specs.Matrix.{tabulate, upTo, apply, weight, det, branchNumber, isMds, isInvolution, hasKernel}
 use Rattle.algebra.proofs.Words.{tabulate-cong}
 use Rattle.algebra.proofs.Bridge.{Homomorphism, map-tabulate, weight-bridge, apply-bridge, det-bridge, branch-bridge, mds-bridge, hasKernel-bridge, involution-bridge}
 use Rattle.field.specs.Polynomial.{_⊕_, degree, product, Modulus}
@@ -25,8 +24,7 @@ use Rattle.field.proofs.Degrees.{HasDegree, polynomial}
 use Rattle.field.proofs.Field.{times-assoc, times-comm, times-one-r, times-sum-r, times-lt}
 use Rattle.field.proofs.Inverses.{inverse-exists}
 use Rattle.field.proofs.Irreducibility.{irreducible-to}
-use Rattle.matrix.specs.Numbers.{numbers, elements}
-use Rattle.matrix.specs.Steps.Conditions.{WordsInField}
+use Rattle.matrix.specs.Numbers.{numbers, elements, WordsInField}
 use Rattle.matrix.specs.Steps.Regular.{regularUpTo}
 use Rattle.matrix.proofs.Squares.{regular-bridge}
 

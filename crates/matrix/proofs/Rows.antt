@@ -18,8 +18,7 @@ use Rattle.algebra.proofs.Hadamard.{involution-sum, sum-involution, null-not-md
 use Rattle.algebra.proofs.Symmetry.{same-bool, moved, branch-row, mds-row, involution-row}
 use Rattle.algebra.proofs.Bridge.{sum-bridge}
 use Rattle.field.specs.Polynomial.{Modulus}
-use Rattle.matrix.specs.Numbers.{numbers, elements}
-use Rattle.matrix.specs.Steps.Conditions.{WordsInField}
+use Rattle.matrix.specs.Numbers.{numbers, elements, WordsInField}
 use Rattle.matrix.specs.Steps.Regular.{regularUpTo}
 use Rattle.matrix.proofs.Squares as Squares
 use Rattle.matrix.proofs.Residues.{Residue, number, lift, lift-number, same-number, residueList as all, residues-complete as complete, residues, number-keeps, residues-field}

@@ -12,7 +12,7 @@ use lib.Dec.{lit<}
 use lib.Pow.{pow-mono}
 use lib.ListN.{length, getD, take, set, replicate, length-map, length-set, getD-replicate}
 use lib.Seq.{length-take-le, take-set-le, take-suc-set, getD-take, getD-set-other}
-use Rattle.algebra.specs.Steps.{atDigit, placesFrom, chosen}
+use Rattle.algebra.specs.Matrix.{atDigit, placesFrom, chosen}
 use Rattle.field.proofs.Sum.{at-digit}
 use Rattle.matrix.specs.Numbers.{entry}
 use Rattle.matrix.specs.Steps.Blocks.{filled, framed}

@@ -14,8 +14,7 @@ use lib.Pow.{pow-pos}
 use borrow.Author.Tests.{eqb-true, eq-eqb}
 use Rattle.algebra.specs.Operations.{Operations}
 use Rattle.algebra.proofs.FieldLaws.{Field}
-use Rattle.algebra.specs.Matrix.{sum, hadamard, det, weight, activity, isMds}
-use Rattle.algebra.specs.Steps.{block, chosen}
+use Rattle.algebra.specs.Matrix.{sum, hadamard, det, weight, activity, isMds, block, chosen}
 use Rattle.algebra.proofs.Words.{oneUnless}
 use Rattle.algebra.proofs.Words.{length-tabulate, getD-tabulate}
 use Rattle.algebra.proofs.Sums.{le-or-lt}

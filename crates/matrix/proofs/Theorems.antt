@@ -12,8 +12,8 @@ use lib.ListN.{length, getD, length-map}
 use lib.Pow.{pow-pos}
 use Rattle.algebra.specs.Operations.{Operations}
 use Rattle.algebra.proofs.FieldLaws.{Field}
-use Rattle.algebra.specs.Matrix.{words, sum, apply, without, det, weight, activity, leastActivity, branchNumber, isMds, isInvolution}
-use Rattle.algebra.specs.Steps.{block, chosen, hasKernel, cleared}
+use Rattle.algebra.specs.Matrix.{words, sum, apply, without, det, weight, activity, leastActivity, branchNumber, isMds, isInvolution, block, chosen, hasKernel}
+use Rattle.algebra.specs.Steps.{cleared}
 use Rattle.algebra.proofs.Sums.{delta}
 use Rattle.algebra.proofs.Weights.{getD-apply}
 use Rattle.algebra.proofs.Branch.{branch-le, branch-le-suc, branch-attained}
@@ -25,8 +25,7 @@ use Rattle.field.specs.Polynomial.{degree, product, Modulus}
 use Rattle.field.proofs.Sum.{sum-lt}
 use Rattle.field.proofs.Degrees.{polynomial}
 use Rattle.field.proofs.Field.{times-lt}
-use Rattle.matrix.specs.Numbers.{numbers, elements}
-use Rattle.matrix.specs.Steps.Conditions.{WordsInField}
+use Rattle.matrix.specs.Numbers.{numbers, elements, WordsInField}
 use Rattle.matrix.specs.Steps.Regular.{regularUpTo}
 use Rattle.matrix.proofs.Squares as Squares
 use Rattle.matrix.proofs.Residues.{Residue, number, lift, lift-number, same-number, same-numbers, lift-words, residueList as all, residues-complete as complete, one-lt, residues, number-keeps, residues-field}

@@ -10,12 +10,11 @@ use lib.Count.{ones}
 use lib.ListN.{length, getD, replicate}
 use lib.Pow.{pow-pos}
 use Rattle.algebra.specs.Operations.{Operations}
-use Rattle.algebra.specs.Steps.{chosen, hasKernel}
+use Rattle.algebra.specs.Matrix.{chosen, hasKernel}
 use Rattle.algebra.proofs.Bridge.{hasKernel-cong}
 use Rattle.algebra.proofs.Kernel.{hasKernel-empty}
 use Rattle.algebra.proofs.Choices.{chosen-lt}
-use Rattle.matrix.specs.Numbers.{numbers, elements, entry}
-use Rattle.matrix.specs.Steps.Conditions.{InField}
+use Rattle.matrix.specs.Numbers.{numbers, elements, entry, InField}
 use Rattle.matrix.specs.Steps.Blocks.{filled, framed}
 use Rattle.matrix.specs.Steps.Pairs.{lowered, linesKernel, overLines, overPairs}
 use Rattle.matrix.proofs.Selections.{chosen-ones, ones-none, line-chosen, column-chosen}

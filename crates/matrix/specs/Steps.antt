@@ -1,5 +1,4 @@
 -- Steps of the code that contracts need. Nobody need believe these: theorems tie them to the definitions.
-pub mod Conditions
 pub mod Blocks
 pub mod Choice
 pub mod Pairs

@@ -7,13 +7,12 @@ ghost use mathlib.Core.Bool.{not};
 ghost use Prim.Native.Nat.{_+_, _-_, _^_, _≤_, _<_};
 ghost use lib.Dec.{eqb};
 ghost use lib.ListN.{length, getD};
-ghost use Rattle.algebra.specs.Matrix.{skip, branchNumber};
-ghost use Rattle.algebra.specs.Steps.{chosen, hasKernel, clearedLine, cleared};
+ghost use Rattle.algebra.specs.Matrix.{skip, branchNumber, chosen, hasKernel};
+ghost use Rattle.algebra.specs.Steps.{clearedLine, cleared};
 ghost use Rattle.field.specs.Polynomial.{Modulus, firstBelow};
 ghost use Rattle.matrix.specs.Steps.Blocks.{filled, framed};
 ghost use Rattle.matrix.specs.Steps.Pairs.{lowered, linesKernel, overLines};
-ghost use Rattle.matrix.specs.Numbers.{numbers, elements, entry};
-ghost use Rattle.matrix.specs.Steps.Conditions.{InField, WordsInField};
+ghost use Rattle.matrix.specs.Numbers.{numbers, elements, entry, InField, WordsInField};
 
 // The first of the r lines whose entry in column 0 is not 0, or r.
 fn pivot(block: [[u8; 8]; 8], r: usize) -> usize

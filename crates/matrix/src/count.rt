@@ -4,8 +4,7 @@ ghost use mathlib.Core.Path.{_≡_};
 ghost use Prim.Native.Nat.{_≤_};
 ghost use lib.ListN.{getD};
 ghost use Rattle.field.specs.Polynomial.{Modulus};
-ghost use Rattle.matrix.specs.Numbers.{entry};
-ghost use Rattle.matrix.specs.Steps.Conditions.{InField, WordsInField};
+ghost use Rattle.matrix.specs.Numbers.{entry, InField, WordsInField};
 ghost use Rattle.matrix.specs.Counts.{elementCount, rowCount, matrixCount};
 
 // The sum of the XOR counts of the first n elements of a line.

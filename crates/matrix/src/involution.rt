@@ -5,8 +5,7 @@ ghost use Prim.Native.Nat.{_≤_, _<_};
 ghost use Rattle.algebra.specs.Matrix.{isInvolution};
 ghost use Rattle.field.specs.Polynomial.{Modulus};
 ghost use Rattle.matrix.specs.Steps.Identity.{unit, squareEntry, isUnitLine};
-ghost use Rattle.matrix.specs.Numbers.{numbers, elements, entry};
-ghost use Rattle.matrix.specs.Steps.Conditions.{InField};
+ghost use Rattle.matrix.specs.Numbers.{numbers, elements, entry, InField};
 
 // Entry (i, j) of the identity.
 fn unit(i: usize, j: usize) -> u8

@@ -8,9 +8,8 @@ ghost use lib.ListN.{getD, take, replicate};
 ghost use lib.Seq.{paste};
 ghost use Rattle.algebra.specs.Matrix.{sum, apply, hadamard};
 ghost use Rattle.field.specs.Polynomial.{_⊕_, Modulus, product};
-ghost use Rattle.matrix.specs.Steps.Conditions.{HalvingOrder, InField, WordsInField};
+ghost use Rattle.matrix.specs.Numbers.{HalvingOrder, InField, WordsInField, numbers, entry};
 ghost use Rattle.matrix.specs.Steps.Blocks.{filled, framed};
-ghost use Rattle.matrix.specs.Numbers.{numbers, entry};
 
 // The sum of the products of the first n words of a line and an input.
 fn dot(p: u16, line: [u8; 8], x: [u8; 8], n: usize) -> u8

@@ -10,16 +10,14 @@ use native.Mathlib.Omega.{arith}
 use lib.Dec.{eqb, ltb}
 use lib.ListN.{length, getD}
 use borrow.Author.Tests.{eqb-true, eq-eqb, ltb-true, lt-ltb}
-use Rattle.algebra.specs.Matrix.{tabulate, upTo, sum, hadamard, skip, without, det}
-use Rattle.algebra.specs.Steps.{placesFrom, chosen, block}
+use Rattle.algebra.specs.Matrix.{tabulate, upTo, sum, hadamard, skip, without, det, placesFrom, chosen, block}
 use Rattle.algebra.proofs.Involution.{and-left, and-right}
 use Rattle.algebra.proofs.Symmetry.{same-bool}
 use Rattle.field.specs.Polynomial.{_⊕_, _⊗_, digitsWithin, overDigits, degree, reduce, rem, product, onesInColumns, xorCount, Modulus}
 use lib.Count.{ones, onesIn}
 use Rattle.field.specs.Table.{table}
 use Rattle.field.proofs.Completeness.{table-sound}
-use Rattle.matrix.specs.Numbers.{numbers}
-use Rattle.matrix.specs.Steps.Conditions.{WordsInField}
+use Rattle.matrix.specs.Numbers.{numbers, WordsInField}
 use Rattle.matrix.specs.Counts.{elementCount, total}
 use Rattle.field.specs.Steps.{everyBelow}
 use Rattle.matrix.specs.Steps.Regular.{isRegularBlock, regularOfSize, regularUpTo}

@@ -20,8 +20,7 @@ use Rattle.algebra.proofs.Sums.{sum-cong}
 use Rattle.algebra.proofs.Symmetry.{same-bool}
 use Rattle.field.specs.Polynomial.{_⊕_, Modulus, degree}
 use Rattle.field.proofs.Sum.{sum-cancel}
-use Rattle.matrix.specs.Numbers.{numbers, entry}
-use Rattle.matrix.specs.Steps.Conditions.{InField, WordsInField, HalvingOrder}
+use Rattle.matrix.specs.Numbers.{numbers, entry, InField, WordsInField, HalvingOrder}
 use Rattle.field.specs.Steps.{everyBelow}
 use Rattle.matrix.specs.Steps.Blocks.{framed}
 use Rattle.matrix.proofs.Filled.{entry-of, xor-sum}

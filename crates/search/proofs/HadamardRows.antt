@@ -16,8 +16,7 @@ use Rattle.algebra.specs.Matrix.{sum, hadamard, isMds, isInvolution, words}
 use Rattle.algebra.proofs.Involution.{and-left, and-right}
 use Rattle.algebra.proofs.Sums.{Inverse, own}
 use Rattle.field.specs.Polynomial.{Modulus, degree, xorCount}
-use Rattle.matrix.specs.Numbers.{numbers, elements}
-use Rattle.matrix.specs.Steps.Conditions.{WordsInField}
+use Rattle.matrix.specs.Numbers.{numbers, elements, WordsInField}
 use Rattle.matrix.specs.Counts.{total, elementCount}
 use Rattle.matrix.specs.Steps.Regular.{regularUpTo}
 use Rattle.matrix.proofs.Residues.{lift, lift-number, regular-carried}

@@ -16,7 +16,7 @@ use lib.Pow.{pow-mono}
 use borrow.Author.Tests.{leb-true, leb-false, lt-ltb, eq-eqb, ne-eqb, not-true, not-false}
 use Rattle.field.specs.Polynomial.{xorCount}
 use Rattle.field.proofs.Degrees.{polynomial}
-use Rattle.matrix.specs.Steps.Conditions.{WordsInField}
+use Rattle.matrix.specs.Numbers.{WordsInField}
 use Rattle.matrix.specs.Counts.{total, elementCount}
 use Rattle.matrix.proofs.Squares.{each-every}
 use Rattle.matrix.proofs.Tallies.{xorCount-le, total-le, total-cong}

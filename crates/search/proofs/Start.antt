@@ -13,7 +13,7 @@ use Rattle.algebra.proofs.Words.{tabulate-cong}
 use Rattle.algebra.proofs.Symmetry.{same-bool}
 use Rattle.field.specs.Polynomial.{Modulus, degree, xorCount}
 use Rattle.field.proofs.Calls.{not-too-large, elements-most}
-use Rattle.matrix.specs.Steps.Conditions.{WordsInField}
+use Rattle.matrix.specs.Numbers.{WordsInField}
 use Rattle.matrix.specs.Counts.{total, elementCount}
 use Rattle.search.specs.declared.Best.{Best as Kept}
 use Rattle.search.specs.declared.letters.Letters.{Letters}

@@ -5,7 +5,7 @@ ghost use mathlib.Core.List.{foldl};
 ghost use Prim.Native.Nat.{_<_, _≤_};
 ghost use lib.ListN.{take};
 ghost use Rattle.field.specs.Polynomial.{Modulus, _⊕_};
-ghost use Rattle.matrix.specs.Steps.Conditions.{WordsInField};
+ghost use Rattle.matrix.specs.Numbers.{WordsInField};
 ghost use Rattle.search.specs.Shape.{hadamardShape, isGood};
 ghost use Rattle.search.specs.Steps.Hadamard.{SearchOrder, mayStand, lastLetter};
 

@@ -7,7 +7,7 @@ ghost use Prim.Native.Nat.{_≤_};
 ghost use mathlib.Core.List.{[], _∷_};
 ghost use Rattle.refusal.specs.Refusals.{numberOf, fault, answer, answerAfter};
 ghost use Rattle.field.specs.Polynomial.{Modulus};
-ghost use Rattle.matrix.specs.Steps.Conditions.{WordsInField};
+ghost use Rattle.matrix.specs.Numbers.{WordsInField};
 ghost use Rattle.search.specs.Shape.{hadamardShape};
 ghost use Rattle.search.specs.Answer.{someTooLarge, lightestRow, isNone, noRow, rowFound, searchAnswer, saysSearch};
 ghost use Rattle.search.specs.Steps.Prefix.{kept, bestAs};

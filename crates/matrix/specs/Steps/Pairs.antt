@@ -4,7 +4,7 @@ use mathlib.Core.List.{List}
 use Prim.Native.Nat.{ℕ, zero, suc, _+_, _-_, _^_, min}
 use lib.ListN.{length, getD}
 use Rattle.algebra.specs.Operations.{Operations}
-use Rattle.algebra.specs.Steps.{chosen, hasKernel}
+use Rattle.algebra.specs.Matrix.{chosen, hasKernel}
 
 -- the smaller of a and best where the test passed, else best
 abbrev pub lowered : Bool → ℕ → ℕ → ℕ

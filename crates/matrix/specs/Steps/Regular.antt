@@ -4,8 +4,7 @@ use Prim.Native.Nat.{ℕ, suc, _%_, _^_}
 use lib.Dec.{eqb}
 use lib.ListN.{length}
 use Rattle.algebra.specs.Operations.{Operations}
-use Rattle.algebra.specs.Matrix.{det}
-use Rattle.algebra.specs.Steps.{chosen, block}
+use Rattle.algebra.specs.Matrix.{det, chosen, block}
 use Rattle.field.specs.Steps.{everyBelow}
 
 -- the block of the lines r and the columns s is no square block of size k, or its determinant is not 0

@@ -5,8 +5,7 @@ use Prim.Native.Nat.{ℕ, _+_, _*_, _<_}
 use native.Mathlib.Nat.{lt-of-lt-of-le}
 use denote.Ref.{now}
 use Rattle.refusal.specs.Refusals.{answer}
-use Rattle.matrix.specs.Numbers.{entry}
-use Rattle.matrix.specs.Steps.Conditions.{InField}
+use Rattle.matrix.specs.Numbers.{entry, InField}
 use Rattle.matrix.proofs.Filled.{entry-of}
 use Rattle.matrix.specs.Answers.{checkOf, checkFound}
 use Rattle.field.proofs.Calls.{elements-most}

@@ -4,8 +4,7 @@ use Prim.Native.Nat.{ℕ, _+_, _-_, _≤_, _<_, zero-le}
 use native.Mathlib.Nat.{pos-of-ne-zero}
 use native.Mathlib.Omega.{arith}
 use Rattle.algebra.specs.Matrix.{without, det}
-use Rattle.matrix.specs.Numbers.{numbers, entry}
-use Rattle.matrix.specs.Steps.Conditions.{InField}
+use Rattle.matrix.specs.Numbers.{numbers, entry, InField}
 use Rattle.matrix.proofs.Filled.{entry-of}
 use Rattle.matrix.proofs.Minors.{firstLine, first-line-none, first-line-more, first-line-all, det-none, det-single, minor-in-field}
 use borrow.Author.Needs.{needs}

@@ -4,8 +4,7 @@ use mathlib.Core.List.{List}
 use Prim.Native.Nat.{ℕ, _-_, _≤_, zero-le}
 use native.Mathlib.Omega.{arith}
 use lib.ListN.{length, getD, replicate}
-use Rattle.algebra.specs.Matrix.{tabulate}
-use Rattle.algebra.specs.Steps.{chosen}
+use Rattle.algebra.specs.Matrix.{tabulate, chosen}
 use Rattle.matrix.specs.Numbers.{entry}
 use Rattle.matrix.specs.Steps.Blocks.{filled, framed}
 use Rattle.matrix.proofs.Filled.{filled-more}

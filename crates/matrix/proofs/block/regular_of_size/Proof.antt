@@ -8,8 +8,7 @@ use native.Mathlib.Nat.{le-refl, lt-of-lt-of-le}
 use native.Mathlib.Omega.{arith}
 use borrow.Author.Tests.{le-leb, lt-leb}
 use lib.Count.{ones}
-use Rattle.algebra.specs.Matrix.{det}
-use Rattle.algebra.specs.Steps.{chosen, block}
+use Rattle.algebra.specs.Matrix.{det, chosen, block}
 use Rattle.matrix.specs.Numbers.{numbers, entry}
 use Rattle.matrix.specs.Steps.Regular.{regularOfSize}
 use Rattle.matrix.proofs.Regularity.{Passed, passed-none, passed-more, Regular, RegularLines, other-columns, block-regular, block-singular}

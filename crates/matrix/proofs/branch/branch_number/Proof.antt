@@ -8,9 +8,8 @@ use lib.Count.{ones, ones-le}
 use lib.ListN.{length}
 use lib.Pow.{pow-pos}
 use borrow.Author.Needs.{needs}
-use Rattle.algebra.specs.Steps.{chosen}
-use Rattle.matrix.specs.Numbers.{numbers, elements, entry}
-use Rattle.matrix.specs.Steps.Conditions.{InField}
+use Rattle.algebra.specs.Matrix.{chosen}
+use Rattle.matrix.specs.Numbers.{numbers, elements, entry, InField}
 use Rattle.matrix.specs.Steps.Pairs.{overPairs}
 use Rattle.matrix.proofs.Selections.{chosen-ones, mask-fits, shifted, column-chosen}
 use Rattle.matrix.proofs.Trials.{columns-in-field, pairs-more, pairs-one}

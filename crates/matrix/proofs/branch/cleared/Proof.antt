@@ -8,8 +8,7 @@ use borrow.Author.Needs.{needs}
 use Rattle.algebra.specs.Matrix.{tabulate}
 use Rattle.algebra.specs.Steps.{cleared}
 use Rattle.algebra.proofs.Kernel.{skip-le}
-use Rattle.matrix.specs.Numbers.{numbers, entry}
-use Rattle.matrix.specs.Steps.Conditions.{InField, WordsInField}
+use Rattle.matrix.specs.Numbers.{numbers, entry, InField, WordsInField}
 use Rattle.matrix.specs.Steps.Blocks.{filled, framed}
 use Rattle.matrix.proofs.Elimination.{cleared-as}
 use Rattle.matrix.proofs.Filled.{filled-more}

@@ -10,8 +10,7 @@ use borrow.Author.Needs.{needs}
 use Rattle.algebra.specs.Matrix.{tabulate}
 use Rattle.algebra.specs.Steps.{clearedLine}
 use Rattle.field.specs.Polynomial.{_⊕_, product}
-use Rattle.matrix.specs.Numbers.{numbers}
-use Rattle.matrix.specs.Steps.Conditions.{WordsInField}
+use Rattle.matrix.specs.Numbers.{numbers, WordsInField}
 use Rattle.matrix.specs.Steps.Blocks.{filled}
 use Rattle.matrix.proofs.Filled.{filled-more}
 use Rattle.matrix.proofs.branch.cleared_line.Statement.{statement}

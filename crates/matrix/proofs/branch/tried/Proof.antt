@@ -5,7 +5,7 @@ use native.Mathlib.Nat.{le-of-lt}
 use native.Mathlib.Omega.{arith}
 use lib.Count.{ones, ones-le}
 use lib.ListN.{length}
-use Rattle.algebra.specs.Steps.{chosen}
+use Rattle.algebra.specs.Matrix.{chosen}
 use Rattle.matrix.specs.Numbers.{numbers, elements, entry}
 use Rattle.matrix.specs.Steps.Pairs.{linesKernel}
 use Rattle.matrix.proofs.Selections.{chosen-ones, mask-fits}

@@ -2,7 +2,7 @@
 use native.Mathlib.Numerals.{add-one}
 use native.Mathlib.Omega.{arith}
 use Rattle.algebra.specs.Matrix.{isMds}
-use Rattle.matrix.specs.Steps.Conditions.{InField}
+use Rattle.matrix.specs.Numbers.{InField}
 use Rattle.matrix.specs.Answers.{checkOf}
 use Rattle.matrix.proofs.Theorems.{branch-most}
 use borrow.Author.Needs.{needs}

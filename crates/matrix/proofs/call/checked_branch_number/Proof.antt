@@ -1,6 +1,6 @@
 -- `matrix::call::checked_branch_number` meets its contract: the branch number is at most 9. Assumes nothing.
 use native.Mathlib.Omega.{arith}
-use Rattle.matrix.specs.Steps.Conditions.{InField}
+use Rattle.matrix.specs.Numbers.{InField}
 use Rattle.matrix.proofs.Theorems.{branch-most}
 use Rattle.field.proofs.Calls.{modulus-fits}
 use Rattle.matrix.proofs.CallFaults.{Sound, matrix-sound, call-refused, call-accepted}

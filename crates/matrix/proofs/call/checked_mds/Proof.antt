@@ -1,8 +1,7 @@
 -- `matrix::call::checked_mds` meets its contract: where every square block is regular, the matrix is MDS. Assumes nothing.
 use native.Mathlib.Nat.{le-refl}
 use lib.Dec.{lit≤}
-use Rattle.matrix.specs.Numbers.{entry}
-use Rattle.matrix.specs.Steps.Conditions.{InField}
+use Rattle.matrix.specs.Numbers.{entry, InField}
 use Rattle.matrix.proofs.Theorems.{mds-is-regular}
 use Rattle.field.proofs.Calls.{modulus-fits}
 use Rattle.matrix.proofs.CallFaults.{Sound, matrix-sound, call-refused, call-accepted}

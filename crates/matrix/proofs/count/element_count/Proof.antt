@@ -4,7 +4,7 @@ use Prim.Native.Nat.{ℕ, _+_, _-_, _*_, _≤_}
 use native.Mathlib.Omega.{arith}
 use lib.ListN.{getD}
 use borrow.Author.Needs.{needs}
-use Rattle.matrix.specs.Steps.Conditions.{WordsInField}
+use Rattle.matrix.specs.Numbers.{WordsInField}
 use Rattle.matrix.specs.Counts.{elementCount, total}
 use Rattle.matrix.proofs.Tallies.{xorCount-le, elementCount-step}
 use Rattle.matrix.proofs.count.element_count.Statement.{statement}

@@ -3,8 +3,7 @@ use mathlib.Core.Path.{_≡_, refl, sym, ap, ap₂, _∙_}
 use Prim.Native.Nat.{ℕ, _+_, _-_, _*_, _≤_}
 use native.Mathlib.Omega.{arith}
 use borrow.Author.Needs.{needs}
-use Rattle.matrix.specs.Numbers.{entry}
-use Rattle.matrix.specs.Steps.Conditions.{InField, WordsInField}
+use Rattle.matrix.specs.Numbers.{entry, InField, WordsInField}
 use Rattle.matrix.specs.Counts.{total, rowCount}
 use Rattle.matrix.proofs.Tallies.{rowCount-le, total-step, total-rows}
 use Rattle.matrix.proofs.count.matrix_count.Statement.{statement}

@@ -8,8 +8,7 @@ use borrow.Author.Count.{below-more}
 use borrow.Author.Tests.{not-true, not-false}
 use borrow.Author.Needs.{needs}
 use Rattle.matrix.specs.Steps.Identity.{isUnitLine}
-use Rattle.matrix.specs.Numbers.{entry}
-use Rattle.matrix.specs.Steps.Conditions.{InField}
+use Rattle.matrix.specs.Numbers.{entry, InField}
 use Rattle.matrix.proofs.Squares.{each-every, every-not}
 use Rattle.matrix.proofs.Units.{units-involution}
 use Rattle.matrix.proofs.involution.involution.Statement.{statement}

@@ -6,8 +6,7 @@ use borrow.Author.Needs.{needs}
 use Rattle.algebra.specs.Matrix.{sum}
 use Rattle.field.specs.Polynomial.{product}
 use Rattle.matrix.specs.Steps.Identity.{squareEntry}
-use Rattle.matrix.specs.Numbers.{numbers, entry}
-use Rattle.matrix.specs.Steps.Conditions.{InField}
+use Rattle.matrix.specs.Numbers.{numbers, entry, InField}
 use Rattle.matrix.proofs.Filled.{sum-more}
 use Rattle.matrix.proofs.involution.square_entry.Statement.{statement}
 use Rattle.matrix.proofs.involution.square_entry.Tie as tie

@@ -6,8 +6,7 @@ use Prim.Native.Nat.{ℕ, _-_, _/_, _<_}
 use native.Mathlib.Omega.{arith}
 use lib.ListN.{replicate}
 use Rattle.algebra.specs.Matrix.{tabulate, apply, hadamard}
-use Rattle.matrix.specs.Numbers.{numbers}
-use Rattle.matrix.specs.Steps.Conditions.{WordsInField}
+use Rattle.matrix.specs.Numbers.{numbers, WordsInField}
 use Rattle.matrix.proofs.Halving.{Half, half, single, first-in-field, second-in-field, added-in-field, halved-steps}
 use borrow.Author.Needs.{needs}
 use borrow.Fn.Kinds.{In}

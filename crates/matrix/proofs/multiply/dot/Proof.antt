@@ -5,8 +5,7 @@ use native.Mathlib.Omega.{arith}
 use lib.ListN.{getD}
 use Rattle.algebra.specs.Matrix.{sum}
 use Rattle.field.specs.Polynomial.{product}
-use Rattle.matrix.specs.Numbers.{numbers}
-use Rattle.matrix.specs.Steps.Conditions.{WordsInField}
+use Rattle.matrix.specs.Numbers.{numbers, WordsInField}
 use Rattle.matrix.proofs.Filled.{sum-more}
 use borrow.Author.Needs.{needs}
 use Rattle.matrix.proofs.multiply.dot.Statement.{statement}

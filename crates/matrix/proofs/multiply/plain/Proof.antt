@@ -6,8 +6,7 @@ use native.Mathlib.Omega.{arith}
 use lib.ListN.{getD}
 use Rattle.algebra.specs.Matrix.{tabulate, sum, apply}
 use Rattle.field.specs.Polynomial.{product}
-use Rattle.matrix.specs.Numbers.{numbers, entry}
-use Rattle.matrix.specs.Steps.Conditions.{InField, WordsInField}
+use Rattle.matrix.specs.Numbers.{numbers, entry, InField, WordsInField}
 use Rattle.matrix.specs.Steps.Blocks.{filled}
 use Rattle.matrix.proofs.Filled.{filled-more}
 use borrow.Author.Needs.{needs}
