@@ -1,4 +1,5 @@
 """Request and answer texts, and the two programs that turn one into the other. For the scripts of this project."""
+import contextlib
 import json
 import os
 import subprocess
@@ -78,12 +79,43 @@ def numbers(answer):
 
 
 def run(program, text, timeout=None):
-    """Standard output of one run of a program. Death by a signal or an overrun of the time is an answer of its own."""
+    """Standard output of one run of a program on a text."""
+    return run_on(program, {"input": text}, timeout)
+
+
+def run_on(program, source, timeout=None):
+    """The same with the standard input that `source`, arguments of subprocess.run, sets up. Death by a signal or an overrun
+    of the time is an answer of its own."""
     try:
-        done = subprocess.run([program], input=text, stdout=subprocess.PIPE, timeout=timeout)
+        done = subprocess.run([program], stdout=subprocess.PIPE, timeout=timeout, **source)
     except subprocess.TimeoutExpired:
         return b"no answer within %d seconds" % timeout
     return done.stdout if done.returncode >= 0 else b"ended by signal %d" % -done.returncode
+
+
+@contextlib.contextmanager
+def directory():
+    """A standard input that can be opened and not be read."""
+    place = os.open(ROOT, os.O_RDONLY)
+    yield {"stdin": place}
+    os.close(place)
+
+
+@contextlib.contextmanager
+def closed():
+    """A standard input that is not open."""
+    yield {"stdin": subprocess.DEVNULL, "preexec_fn": lambda: os.close(0)}
+
+
+@contextlib.contextmanager
+def failing_behind(text):
+    """A standard input that gives a short text, and fails instead of telling its end: its writer stays, and it does not wait."""
+    reader, writer = os.pipe()
+    os.set_blocking(reader, False)
+    os.write(writer, text)
+    yield {"stdin": reader}
+    os.close(reader)
+    os.close(writer)
 
 
 class Server:

@@ -1,11 +1,10 @@
 //! From a request text to its answer text, and the refusals in their order.
 
 use crate::distance::{branch_number, lightest_word, Word};
-use crate::field::{degree, irreducible, Field};
+use crate::field::{degree, irreducible, Field, Fields};
 use crate::matrix::Matrix;
 use crate::search::lightest_row;
 use crate::text::{line_of, read_request, Request};
-use std::collections::HashMap;
 
 /// A refusal's number, 1 to 9.
 pub type Refusal = u32;
@@ -13,7 +12,7 @@ pub type Refusal = u32;
 /// Answers requests; the tables of a field are kept for the next request.
 #[derive(Default)]
 pub struct Answerer {
-    fields: HashMap<u32, Field>,
+    fields: Fields,
 }
 
 impl Answerer {
@@ -28,20 +27,16 @@ impl Answerer {
         if request.kind != 2 {
             return Err(2);
         }
-        Ok(lightest_word(self.field(request.polynomial), &matrix_of(&request)))
+        Ok(lightest_word(self.fields.of(request.polynomial), &matrix_of(&request)))
     }
 
     fn accepted(&mut self, text: &[u8]) -> Result<String, Refusal> {
         let request = judged(text)?;
         match request.kind {
-            1 => search_answer(self.field(request.polynomial), &request),
-            2 => Ok(check_answer(self.field(request.polynomial), &request)),
+            1 => search_answer(self.fields.of(request.polynomial), &request),
+            2 => Ok(check_answer(self.fields.of(request.polynomial), &request)),
             _ => Ok(survey_answer(request.polynomial)),
         }
-    }
-
-    fn field(&mut self, polynomial: u32) -> &Field {
-        self.fields.entry(polynomial).or_insert_with(|| Field::new(polynomial))
     }
 }
 
@@ -58,7 +53,7 @@ fn judged(text: &[u8]) -> Result<Request, Refusal> {
 }
 
 /// The first number whose fault is there.
-fn first_fault(faults: &[(Refusal, &dyn Fn() -> bool)]) -> Option<Refusal> {
+pub fn first_fault(faults: &[(Refusal, &dyn Fn() -> bool)]) -> Option<Refusal> {
     faults.iter().find(|(_, is_there)| is_there()).map(|(number, _)| *number)
 }
 
@@ -101,7 +96,7 @@ fn value_outside_field(request: &Request) -> bool {
     request.values.iter().any(|&v| v >= size)
 }
 
-fn zero_or_repeated(values: &[u32]) -> bool {
+pub fn zero_or_repeated(values: &[u32]) -> bool {
     values.iter().enumerate().any(|(k, v)| *v == 0 || values[..k].contains(v))
 }
 

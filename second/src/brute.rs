@@ -23,6 +23,20 @@ pub fn branch_number(field: &Field, matrix: &Matrix) -> usize {
     inputs(field, matrix.order).skip(1).map(|x| weight(&x) + weight(&matrix.apply(field, &x))).min().unwrap()
 }
 
+/// The sum over all ways to choose a column for each line, each once, of the product of the entries there.
+pub fn determinant(field: &Field, matrix: &Matrix) -> u8 {
+    fn from(field: &Field, matrix: &Matrix, line: usize, taken: usize) -> u8 {
+        if line == matrix.order {
+            return 1;
+        }
+        let free = (0..matrix.order).filter(|&j| taken >> j & 1 == 0);
+        free.fold(0, |sum, j| {
+            sum ^ field.product(matrix.entries[line][j], from(field, matrix, line + 1, taken | 1 << j))
+        })
+    }
+    from(field, matrix, 0, 0)
+}
+
 /// Used twice, the matrix gives every input back.
 pub fn is_involution(field: &Field, matrix: &Matrix) -> bool {
     inputs(field, matrix.order).all(|x| matrix.apply(field, &matrix.apply(field, &x)) == x)

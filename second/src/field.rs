@@ -2,6 +2,8 @@
 //!
 //! A polynomial is a number whose bit i is the coefficient of x^i. Sums are exclusive or.
 
+use std::collections::HashMap;
+
 /// Product of two polynomials over two elements, not reduced.
 pub fn polynomial_product(a: u32, b: u32) -> u32 {
     (0..16).filter(|i| b >> i & 1 == 1).fold(0, |sum, i| sum ^ (a << i))
@@ -70,6 +72,16 @@ impl Field {
 
     pub fn xor_count(&self, a: u8) -> u32 {
         self.counts[a as usize]
+    }
+}
+
+/// The fields met so far, by their polynomials: the tables of a field are made once.
+#[derive(Default)]
+pub struct Fields(HashMap<u32, Field>);
+
+impl Fields {
+    pub fn of(&mut self, polynomial: u32) -> &Field {
+        self.0.entry(polynomial).or_insert_with(|| Field::new(polynomial))
     }
 }
 

@@ -3,11 +3,13 @@
 //! - `second` reads one request text on standard input and writes the answer text or the refusal's line.
 //! - `second serve` reads requests one after another, each as its length in four bytes (lowest first) and its bytes,
 //!   and writes each answer in the same form, until its input ends.
+//! - `second calls` reads records of single calls and writes the record of each answer, until its input ends.
 //! - `second light` reads a check and writes an input of least weight and its output, if it is not MDS.
 
 mod answer;
 #[cfg(test)]
 mod brute;
+mod calls;
 mod distance;
 mod field;
 mod matrix;
@@ -15,15 +17,18 @@ mod search;
 mod text;
 
 use answer::Answerer;
+use calls::Call;
+use field::Fields;
 use std::io::{self, Read, Write};
 
 fn main() -> io::Result<()> {
     match std::env::args().nth(1).as_deref() {
         None => answer_one(),
         Some("serve") => serve(),
+        Some("calls") => calls(),
         Some("light") => light(),
         Some(other) => {
-            eprintln!("second: unknown mode '{other}': none, serve or light");
+            eprintln!("second: unknown mode '{other}': none, serve, calls or light");
             std::process::exit(2)
         }
     }
@@ -53,6 +58,16 @@ fn serve() -> io::Result<()> {
         output.flush()?;
     }
     Ok(())
+}
+
+fn calls() -> io::Result<()> {
+    let (mut input, mut output) = (io::stdin().lock(), io::BufWriter::new(io::stdout().lock()));
+    let mut fields = Fields::default();
+    let mut record = [0; calls::RECORD];
+    while input.read_exact(&mut record).is_ok() {
+        output.write_all(&calls::written(Call::read(&record).answer(&mut fields)))?;
+    }
+    output.flush()
 }
 
 fn light() -> io::Result<()> {

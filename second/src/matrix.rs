@@ -1,4 +1,4 @@
-//! Matrices over a field: the product with an input, the involution test and the matrix count.
+//! Matrices over a field: the product with an input, the determinant, the involution test and the matrix count.
 
 use crate::field::Field;
 
@@ -38,6 +38,24 @@ impl Matrix {
         output
     }
 
+    /// The determinant by elimination: a line with a nonzero entry in the column is brought up, which changes no sign
+    /// as there is none, and multiples of it are subtracted below; then it is the product along the diagonal.
+    pub fn determinant(&self, field: &Field) -> u8 {
+        let mut lines = self.entries;
+        let mut product = 1;
+        for column in 0..self.order {
+            let Some(found) = (column..self.order).find(|&i| lines[i][column] != 0) else { return 0 };
+            lines.swap(column, found);
+            let pivot = lines[column];
+            product = field.product(product, pivot[column]);
+            for line in &mut lines[column + 1..self.order] {
+                let factor = field.product(line[column], field.inverse(pivot[column]));
+                line.iter_mut().zip(pivot).for_each(|(cell, above)| *cell ^= field.product(factor, above));
+            }
+        }
+        product
+    }
+
     /// Applied twice, it gives every unit vector back. By linearity it then gives every input back.
     pub fn is_involution(&self, field: &Field) -> bool {
         (0..self.order).all(|j| {
@@ -58,6 +76,17 @@ impl Matrix {
 mod tests {
     use super::*;
     use crate::brute;
+
+    #[test]
+    fn determinant_equals_the_sum_over_all_permutations() {
+        brute::for_small_matrices(|field, matrix| {
+            assert_eq!(matrix.determinant(field), brute::determinant(field, matrix), "{matrix:?}");
+        });
+        let field = Field::new(19);
+        let two = |a, b, c, d| Matrix::from_entries(2, |i, j| [[a, b], [c, d]][i][j]).determinant(&field);
+        assert_eq!((two(2, 1, 1, 1), two(0, 2, 9, 0), two(1, 3, 8, 11)), (3, 1, 0));
+        assert_eq!(Matrix::from_entries(0, |_, _| 0).determinant(&field), 1);
+    }
 
     #[test]
     fn involution_equals_the_definition_over_all_inputs() {

@@ -11,6 +11,7 @@ use borrow.Author.Tests.{eq-eqb, ne-eqb, lt-ltb, le-ltb}
 use Rattle.algebra.specs.Operations.{Operations}
 use Rattle.algebra.proofs.FieldLaws.{Field}
 use Rattle.algebra.specs.Matrix.{sum}
+use Rattle.algebra.specs.Places.{Inverse}
 
 -- numbers can be compared
 pub le-or-lt : (a b : ℕ) → (a ≤ b) ⊎ (b < a)
@@ -56,14 +57,7 @@ pub delta-other : (K : Operations) (i j : ℕ) (v : K .Element) → i ≢ j → 
 unfolding delta
 delta-other K i j v e = rw (ne-eqb i j e)
 
--- two maps of the numbers below n to such numbers, each of which undoes the other
-pub record Inverse (n : ℕ) (σ ρ : ℕ → ℕ) : Type 0 where
-  pub there : (i : ℕ) → i < n → σ i < n
-  pub back : (i : ℕ) → i < n → ρ i < n
-  pub back-there : (i : ℕ) → i < n → ρ (σ i) ≡ i
-  pub there-back : (i : ℕ) → i < n → σ (ρ i) ≡ i
-
--- the same two, the other way round
+-- two maps that undo each other, the other way round
 pub turned : {n : ℕ} {σ ρ : ℕ → ℕ} → Inverse n σ ρ → Inverse n ρ σ
 turned v = record { there = v .back; back = v .there; back-there = v .there-back; there-back = v .back-there }
 

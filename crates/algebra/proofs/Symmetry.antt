@@ -13,9 +13,10 @@ use lib.ListN.{length, getD}
 use lib.Pow.{pow-pos}
 use Rattle.algebra.specs.Operations.{Operations}
 use Rattle.algebra.proofs.FieldLaws.{Field}
-use Rattle.algebra.specs.Matrix.{tabulate, sum, apply, hadamard, weight, activity, branchNumber, isMds, isInvolution}
+use Rattle.algebra.specs.Matrix.{sum, apply, hadamard, weight, activity, branchNumber, isMds, isInvolution}
+use Rattle.algebra.specs.Places.{moved, Inverse, Affine}
 use Rattle.algebra.proofs.Words.{length-tabulate, getD-tabulate, tabulate-cong, tabulate-of}
-use Rattle.algebra.proofs.Sums.{additive, Naturals, naturals, Inverse, turned, composed, sum-cong, sum-permuted}
+use Rattle.algebra.proofs.Sums.{additive, Naturals, naturals, turned, composed, sum-cong, sum-permuted}
 use Rattle.algebra.proofs.Weights.{length-apply, getD-apply, counts, weight-tabulate, weight-sum}
 use Rattle.algebra.proofs.Branch.{branch-le, branch-attained}
 use Rattle.algebra.proofs.Involution.{involution-back, back-involution}
@@ -24,10 +25,6 @@ use Rattle.algebra.proofs.Hadamard.{involution-sum, sum-involution}
 use Rattle.algebra.proofs.Xor.{xor-assoc, xor-between, xor-own}
 
 -- ---- lists
-
--- the elements at the places σ 0, σ 1, .. σ (n - 1)
-abbrev pub moved : (K : Operations) → ℕ → (ℕ → ℕ) → List (K .Element) → List (K .Element)
-moved K n σ x = tabulate n (λ i. getD x (σ i) (K .null))
 
 module _ (K : Operations) (n : ℕ) (σ ρ : ℕ → ℕ) (v : Inverse n σ ρ) (x : List (K .Element)) (long : length x ≡ n) where
   -- the weight stays
@@ -141,30 +138,30 @@ module _ (K : Operations) (L : Field K) (k : ℕ) (row : List (K .Element)) wher
         ap (weight K) (apply-translate t l x) ∙ weight-moved K (2 ^ k) _ _ v (apply K (2 ^ k) (hadamard K row) x) (length-apply K (2 ^ k) (hadamard K row) x),
       )
 
-  -- a map of the places that keeps exclusive or, up to one constant
-  module _ (σ ρ : ℕ → ℕ) (v : Inverse (2 ^ k) σ ρ) (affine : (i j : ℕ) → i < 2 ^ k → j < 2 ^ k → σ (bitXor i j) ≡ bitXor (bitXor (σ i) (σ j)) (σ 0)) where
+  -- an affine change of the places
+  module _ (σ ρ : ℕ → ℕ) (a : Affine k σ ρ) where
     -- the matrix of the moved row is the matrix with moved lines and columns
     hadamard-moved : (i j : ℕ) → i < 2 ^ k → j < 2 ^ k
         → hadamard K (moved K (2 ^ k) σ row) i j ≡ hadamard K row (σ i) (bitXor (σ j) (σ 0))
     unfolding hadamard
     hadamard-moved i j l m =
         getD-tabulate (2 ^ k) (λ i. getD row (σ i) (K .null)) (bitXor i j) (K .null) (xor-lt k i j l m)
-        ∙ ap (λ (c : ℕ). getD row c (K .null)) (affine i j l m ∙ xor-assoc (σ i) (σ j) (σ 0))
+        ∙ ap (λ (c : ℕ). getD row c (K .null)) (a .bits i j l m ∙ xor-assoc (σ i) (σ j) (σ 0))
 
     columns : Inverse (2 ^ k) (λ j. bitXor (σ j) (σ 0)) (λ j. ρ (bitXor j (σ 0)))
-    columns = composed v (xor-own k (σ 0) (v .there 0 (pow-pos k)))
+    columns = composed (a .inverse) (xor-own k (σ 0) (a .inverse .there 0 (pow-pos k)))
 
     sum-moved : sum K (2 ^ k) (λ i. getD (moved K (2 ^ k) σ row) i (K .null)) ≡ sum K (2 ^ k) (λ i. getD row i (K .null))
     sum-moved =
         sum-cong K (2 ^ k) _ (λ i. getD row (σ i) (K .null)) (λ i l. getD-tabulate (2 ^ k) (λ i. getD row (σ i) (K .null)) i (K .null) l)
-        ∙ sum-permuted K (additive K L) (2 ^ k) σ ρ v (λ i. getD row i (K .null))
+        ∙ sum-permuted K (additive K L) (2 ^ k) σ ρ (a .inverse) (λ i. getD row i (K .null))
 
     module _ (elements : List (K .Element)) (complete : (a : K .Element) → List·Memᴰ a elements) where
       -- the moved row has the same branch number
       pub branch-row : branchNumber K elements (2 ^ k) (hadamard K (moved K (2 ^ k) σ row)) ≡ branchNumber K elements (2 ^ k) (hadamard K row)
       branch-row =
           branch-cong K (2 ^ k) _ (λ i j. hadamard K row (σ i) (bitXor (σ j) (σ 0))) hadamard-moved elements
-          ∙ branch-moved K L elements complete (2 ^ k) (hadamard K row) σ ρ v _ _ columns
+          ∙ branch-moved K L elements complete (2 ^ k) (hadamard K row) σ ρ (a .inverse) _ _ columns
 
       -- the same answer to MDS
       pub mds-row : isMds K elements (2 ^ k) (hadamard K (moved K (2 ^ k) σ row)) ≡ isMds K elements (2 ^ k) (hadamard K row)

@@ -7,7 +7,8 @@ use native.Mathlib.Nat.{mod-lt, zero-lt-suc, zero-mul, one-mul, zero-add}
 use native.Mathlib.Omega.{arith}
 use lib.Arith.{bin-ind}
 use lib.Bits.{bitXor, differ, xor-step, xor-comm, xor-self, xor-zero-r, xor-lt, xor-shr, xor-block}
-use Rattle.algebra.proofs.Sums.{Inverse, own}
+use Rattle.algebra.specs.Places.{Inverse}
+use Rattle.algebra.proofs.Sums.{own}
 
 differ-assoc : (x y z : ℕ) → x < 2 → y < 2 → z < 2 → differ (differ x y) z ≡ differ x (differ y z)
 differ-assoc zero y z a b c = refl

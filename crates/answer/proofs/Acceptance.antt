@@ -1,7 +1,7 @@
 -- What an accepted request has shown, for every kind: every number of its answer fits six columns (`six-columns`), and the answer has at
 -- most 583 bytes (`answer-short`); so 10 is never returned where 583 are lent (`never-ten`). Assumes nothing.
 use mathlib.Core.Path.{_≡_, refl, _∙_}
-use mathlib.Core.Bool.{true, not, _||_}
+use mathlib.Core.Bool.{not, _||_}
 use mathlib.Core.List.{List, [], _∷_, map}
 use Prim.Native.Nat.{ℕ, zero, suc, _+_, _*_, _≤_, _<_, zero-le, suc-le-suc}
 use native.Mathlib.Nat.{le-trans, mul-le-mul}
@@ -10,23 +10,21 @@ use borrow.Author.Tests.{eqb-true, not-false}
 use lib.Dec.{eqb, ltb, lit≤}
 use lib.ListN.{length, getD}
 use Rattle.refusal.specs.Refusals.{firstNumber}
-use Rattle.refusal.proofs.Faults.{first-passed, lacks, lacks-applies, none-first}
+use Rattle.refusal.proofs.Faults.{first-passed, applies-most, none-first}
 use Rattle.field.specs.Polynomial.{Modulus}
 use Rattle.field.specs.Table.{polynomials}
-use Rattle.field.specs.Faults.{polynomialFaults}
 use Rattle.field.proofs.Calls.{not-too-large, modulus-parts}
 use Rattle.matrix.specs.Answers.{checkOf, isWrongOrder}
 use Rattle.matrix.proofs.Tallies.{rowCount-le}
-use Rattle.search.specs.Answer.{sumOf, someTooLarge, searchFaults}
+use Rattle.search.specs.Answer.{sumOf, someTooLarge}
 use Rattle.search.specs.Demands.{countOfRow}
 use Rattle.search.proofs.LetterCounts.{fits-at}
 use Rattle.text.specs.Text.{SixDigits, answerText}
 use Rattle.text.proofs.Form.{six-none, six-more}
-use Rattle.answer.specs.Due.{Request, Kind, rowLines, search, checkFaults, entriesOf, checkLines, check, surveyFaults, surveyLine, surveyLines, survey, requestIn, kindIn, faultsOf, due}
+use Rattle.answer.specs.Due.{Request, Kind, rowLines, search, checkFaults, entriesOf, checkLines, check, surveyFaults, surveyLine, surveyLines, survey, requestIn, faultsOf, due}
 use Rattle.answer.specs.Answered.{Answered}
-use Rattle.answer.specs.Demands.{Lowest, refused, accepted, too-short}
-use Rattle.answer.proofs.EveryKind.{unknown, kind-holds, due-number, due-lines-of, due-passed}
-use Rattle.answer.proofs.Demands.{lowest-refusal}
+use Rattle.answer.proofs.EveryKind.{unknown, kind-holds, faults-to-nine, due-number, due-lines-of, due-passed}
+use Rattle.answer.proofs.Demands.{FirstFault, at-fault, with-room, without-room, first-fault}
 use Rattle.answer.proofs.Replies.{one-length, two-length}
 use Rattle.answer.proofs.Surveys.{survey-length, six-survey, starts-few, polynomials-few, polynomials-modulus}
 use Rattle.matrix.proofs.CallFaults.{order-passes}
@@ -81,7 +79,7 @@ check-fits r e =
     let (modulus, e₄) = modulus-parts p _ e in
     let (order, e₅) = first-passed 5 0 (isWrongOrder n) _ (λ h. omega arith) e₄ in
     let (count, e₆) = first-passed 6 0 (not (eqb (length v) (n * n))) _ (λ h. omega arith) e₅ in
-    let (large, e₇) = first-passed 7 0 (someTooLarge p v) [] (λ h. omega arith) e₆ in
+    let (large, e₇) = first-passed 7 0 (someTooLarge p v) _ (λ h. omega arith) e₆ in
     let square : length v ≡ n * n = eqb-true (length v) (n * n) (not-false _ count) in
     let orders = order-passes n order in
     record {
@@ -132,20 +130,11 @@ answer-short text e = accepted-fits text e .short
 
 -- ---- number 10
 
--- no list has it
-abbrev TenLacks : Kind → Type 0
-TenLacks kind = (r : Request) → lacks 10 (kind .faults r) ≡ true
-
-ten-lacks : (text : List ℕ) → TenLacks (kindIn text)
-unfolding search check survey searchFaults checkFaults surveyFaults polynomialFaults lacks
-ten-lacks text = kind-holds TenLacks (λ r. refl) (λ r. refl) (λ r. refl) (λ k r. refl) text
-
 -- with 583 bytes lent, 10 is never returned
 pub never-ten : {text space after : List ℕ} {number size : ℕ} → Answered text space after number size → 583 ≤ length space → number ≡ 10 → ⊥
-unfolding faultsOf lacks
-never-ten {text} {space} {number = number} a h = go (lowest-refusal a)
+never-ten {text} {space} {number = number} a h = go (first-fault a)
   where
-    go : Lowest text space number → number ≡ 10 → ⊥
-    go (refused x k) e = lacks-applies 10 (faultsOf text) (ten-lacks text (requestIn text)) (rw e at x)
-    go (accepted k r z) e = omega arith
-    go (too-short k r z) e = omega (arith, answer-short text (due-number text ∙ none-first (faultsOf text) k))
+    go : FirstFault text space number → number ≡ 10 → ⊥
+    go (at-fault x k) e = omega (arith, applies-most 9 (faultsOf text) (faults-to-nine text) number x)
+    go (with-room k r z) e = omega arith
+    go (without-room k r z) e = omega (arith, answer-short text (due-number text ∙ none-first (faultsOf text) k))

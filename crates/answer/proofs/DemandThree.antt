@@ -1,101 +1,77 @@
 -- Demand 3, of request texts. `demand-three-text`: what is due to a well-formed search is the demanded row, or 9.
 -- `accepted-search` and `accepted-row`: a search that is answered with lines is well formed, and they are those of the demanded row.
--- `none-exactly`: 9 is due exactly to a well-formed search over whose candidates no row has both properties. `none-answered`: whatever
--- space is lent, a well-formed search is answered 9 exactly then. Assumes nothing.
-use mathlib.Core.Path.{_≡_, refl, sym, _∙_}
-use mathlib.Core.Logic.{_↔_}
-use mathlib.Core.Bool.{Bool, true, false, not}
-use mathlib.Core.List.{List, [], _∷_, List·Memᴰ, List·Memᴰ·head, List·Memᴰ·tail}
-use Prim.Native.Nat.{ℕ, zero, suc, _^_, _≤_, _<_}
+-- `none-exactly`: 9 is due exactly to a well-formed search over whose candidates no row has both properties. `search-answered`: what a
+-- call returns and leaves for a search, whatever space is lent; `none-answered`: its part on 9. `lowest-refusal`: the number is the
+-- lowest that applies, by document 01's list. Assumes nothing.
+use mathlib.Core.Path.{_≡_, refl, sym, ap, _∙_}
+use mathlib.Core.Logic.{_↔_, _⊎_, inl, inr, ⊎-elim}
+use mathlib.Core.Bool.{Bool, true, false, cond}
+use mathlib.Core.List.{List, [], _∷_, _++_}
+use Prim.Native.Nat.{ℕ, zero, suc, _≤_, _<_}
 use native.Mathlib.Omega.{arith}
-use lib.Dec.{lit≤}
-use Rattle.refusal.specs.Refusals.{fault, firstNumber, Answer, answerAfter}
-use Rattle.refusal.proofs.Faults.{first-applies, first-none, first-lowest, absent, after-taken, after-left, after-empty}
+use borrow.Author.Tests.{leb-true, leb-false}
+use lib.Dec.{leb}
+use lib.ListN.{length, drop}
+use Rattle.refusal.specs.Refusals.{fault, firstNumber, Applies, Answer, answerAfter}
+use Rattle.refusal.proofs.Faults.{first-applies, first-none, first-lowest, applies-above, applies-most, none-first, after-taken, after-left, after-empty}
 use Rattle.refusal.specs.declared.Refusal.the-variants.{NoRow as NoRowReason}
-use Rattle.field.specs.Polynomial.{degree}
-use Rattle.field.specs.Faults.{polynomialFaults}
+use Rattle.algebra.proofs.Sums.{le-or-lt}
 use Rattle.search.specs.Lightest.{Best, nothing, found}
-use Rattle.search.specs.Shape.{hadamardShape}
-use Rattle.search.specs.Answer.{someTooLarge, isNone, lightestRow, searchFaults}
-use Rattle.search.specs.Demands.{Demanded}
-use Rattle.field.proofs.Calls.{not-too-large}
-use Rattle.search.proofs.LetterCounts.{member-fits}
-use Rattle.search.proofs.Demands.{demand-three, demand-three-none}
-use Rattle.text.specs.Reading.{inForm, kindOf, polynomialOf, orderOf, valuesOf}
-use Rattle.answer.specs.Due.{rowLines, bestLines, search, requestIn, faultsOf, due}
-use Rattle.answer.specs.Answered.{numberReturned, Answered}
-use Rattle.answer.specs.Demands.{WellFormedSearch, NoRow, SearchDue, row-due, none-due}
-use Rattle.answer.proofs.EveryKind.{kind-is-search, faults-numbered, faults-ascend, nine-is-search, due-number}
+use Rattle.search.specs.Answer.{isNone}
+use Rattle.search.proofs.Demands.{demand-three, demand-three-none, demand-three-only}
+use Rattle.text.specs.Text.{lineText, answerText}
+use Rattle.text.specs.Reading.{kindOf, polynomialOf, orderOf}
+use Rattle.answer.specs.Due.{rowLines, bestLines, faultsOf, due}
+use Rattle.answer.specs.Answered.{numberReturned, lengthReturned, writtenAt, Leaves, Answered}
+use Rattle.answer.specs.Demands.{WellFormedSearch, NoRow, DemandedBy, rowText, SearchDue, row-due, none-due, RowFits, RowTooLong, RowStands, SearchAnswered, Faultless, Lowest, refused, none, accepted, too-short}
+use Rattle.answer.proofs.EveryKind.{faults-numbered, faults-ascend, faults-to-nine, nine-is-search, due-number}
+use Rattle.answer.proofs.Demands.{may-same, FirstFault, at-fault, with-room, without-room, first-fault}
+use Rattle.answer.proofs.Limits.{limits-exactly, stated-applies, well-formed-exactly}
+use Rattle.answer.proofs.WellFormed.{best, only-nine, passed}
 
 -- ---- a well-formed search
 
--- the lightest row over its candidates, and its faults
-abbrev best : List ℕ → Best
-best text = lightestRow hadamardShape (polynomialOf text) (orderOf text) (valuesOf text)
-
-search-faults : (text : List ℕ) → kindOf text ≡ 1
-    → faultsOf text ≡ fault 1 (not (inForm text)) ∷ searchFaults (polynomialOf text) (orderOf text) (valuesOf text) (best text)
-unfolding faultsOf requestIn search
-search-faults text e = rw (kind-is-search text e) refl
-
 module _ (text : List ℕ) (w : WellFormedSearch text) where
-  abbrev p : ℕ
-  p = polynomialOf text
+  -- only one row is demanded
+  one-row : (r s : List ℕ) → DemandedBy text r → DemandedBy text s → r ≡ s
+  one-row r s d e =
+      let q = demand-three-only _ _ _ (passed text w .fits) r d in
+      let q′ = demand-three-only _ _ _ (passed text w .fits) s e in
+      cc
 
-  abbrev n : ℕ
-  n = orderOf text
-
-  abbrev v : List ℕ
-  v = valuesOf text
-
-  -- a fault of the list with a number up to 8 is not there
-  not-there : (k : ℕ) (b : Bool) → k ≤ 8 → List·Memᴰ (fault k b) (fault 1 (not (inForm text)) ∷ searchFaults p n v (best text)) → b ≡ false
-  not-there k b l m = absent (faultsOf text) k b (rw (search-faults text (w .kind-one)) m) (λ a. w .faultless k a l)
-
-  not-large : someTooLarge p v ≡ false
-  unfolding searchFaults polynomialFaults
-  not-large =
-      not-there 7 _ (lit≤ tt) (List·Memᴰ·tail (List·Memᴰ·tail (List·Memᴰ·tail (List·Memᴰ·tail (List·Memᴰ·tail (List·Memᴰ·head refl))))))
-
-  -- only 9 is left
-  due-is : due text ≡ answerAfter [] (fault 9 (isNone (best text)) ∷ []) (bestLines p n (best text))
-  unfolding due requestIn search searchFaults polynomialFaults
-  due-is =
-      rw (search-faults text (w .kind-one), kind-is-search text (w .kind-one))
-      (sym (after-left [] _ 8 _ _ (not-there 8 _ (lit≤ tt) (List·Memᴰ·tail (List·Memᴰ·tail (List·Memᴰ·tail (List·Memᴰ·tail (List·Memᴰ·tail (List·Memᴰ·tail (List·Memᴰ·head refl))))))))
-      ∙ after-left [] _ 7 _ _ not-large
-      ∙ after-left [] _ 6 _ _ (not-there 6 _ (lit≤ tt) (List·Memᴰ·tail (List·Memᴰ·tail (List·Memᴰ·tail (List·Memᴰ·tail (List·Memᴰ·head refl))))))
-      ∙ after-left [] _ 5 _ _ (not-there 5 _ (lit≤ tt) (List·Memᴰ·tail (List·Memᴰ·tail (List·Memᴰ·tail (List·Memᴰ·head refl)))))
-      ∙ after-left [] _ 4 _ _ (not-there 4 _ (lit≤ tt) (List·Memᴰ·tail (List·Memᴰ·tail (List·Memᴰ·head refl))))
-      ∙ after-left [] _ 3 _ _ (not-there 3 _ (lit≤ tt) (List·Memᴰ·tail (List·Memᴰ·head refl)))
-      ∙ after-left [] _ 1 _ _ (not-there 1 _ (lit≤ tt) (List·Memᴰ·head refl))))
+  -- so its text does not both fit a space and exceed it
+  not-both : {space : List ℕ} → RowFits text space → RowTooLong text space → ⊥
+  not-both f g =
+      let e = ap (λ (r : List ℕ). length (rowText text r)) (one-row (f .row) (g .row) (f .demanded) (g .demanded)) in
+      omega (arith, f .fits, g .too-long)
 
   pub demand-three-text : SearchDue text (due text)
   unfolding NoRow
-  demand-three-text = rw due-is (go (best text) refl)
+  demand-three-text = rw (only-nine text w) (go (best text) refl)
     where
-      fits : (a : ℕ) → List·Memᴰ a v → a < 2 ^ degree p
-      fits a m = not-too-large p a (member-fits p v not-large a m)
+      rows : List ℕ → List (List ℕ)
+      rows = rowLines (polynomialOf text) (orderOf text)
 
-      go : (b : Best) → lightestRow hadamardShape p n v ≡ b → SearchDue text (answerAfter [] (fault 9 (isNone b) ∷ []) (bestLines p n b))
-      go nothing e = rw (← after-taken {A = List (List ℕ)} [] [] NoRowReason true [] refl) (none-due (demand-three-none p n v fits .0 e))
+      go : (b : Best) → best text ≡ b → SearchDue text (answerAfter [] (fault 9 (isNone b) ∷ []) (bestLines (polynomialOf text) (orderOf text) b))
+      go nothing e =
+          rw (← after-taken {A = List (List ℕ)} [] [] NoRowReason true [] refl) (none-due (demand-three-none _ _ _ (passed text w .fits) .0 e))
       go (found r) e =
-          rw (← after-left {A = List (List ℕ)} [] (rowLines p n r) 9 false [] refl, ← after-empty {A = List (List ℕ)} [] (rowLines p n r))
-          (row-due r (demand-three p n v fits r e))
+          rw (← after-left {A = List (List ℕ)} [] (rows r) 9 false [] refl, ← after-empty {A = List (List ℕ)} [] (rows r))
+          (row-due r (demand-three _ _ _ (passed text w .fits) r e))
 
 -- ---- what is answered
 
 -- what is due without a refusal
 pub accepted-search : (text : List ℕ) → kindOf text ≡ 1 → due text .number ≡ 0 → WellFormedSearch text
 accepted-search text kind e =
-    record { kind-one = kind; faultless = λ k a l. first-none (faultsOf text) (faults-numbered text) (sym (due-number text) ∙ e) k a }
+    well-formed-exactly text kind .1 (λ k a l. first-none (faultsOf text) (faults-numbered text) (sym (due-number text) ∙ e) k a)
 
 pub accepted-row : (text : List ℕ) → kindOf text ≡ 1 → due text .number ≡ 0
-    → (r : List ℕ) × Demanded (polynomialOf text) (orderOf text) (valuesOf text) r × (due text .value ≡ rowLines (polynomialOf text) (orderOf text) r)
+    → (r : List ℕ) × DemandedBy text r × (due text .value ≡ rowLines (polynomialOf text) (orderOf text) r)
 accepted-row text kind e = go (demand-three-text text (accepted-search text kind e)) e
   where
     go : {d : Answer (List (List ℕ))} → SearchDue text d → d .number ≡ 0
-        → (r : List ℕ) × Demanded (polynomialOf text) (orderOf text) (valuesOf text) r × (d .value ≡ rowLines (polynomialOf text) (orderOf text) r)
+        → (r : List ℕ) × DemandedBy text r × (d .value ≡ rowLines (polynomialOf text) (orderOf text) r)
     go (row-due r h) z = (r, h, refl)
     go (none-due h) z = let y : ⊥ = omega arith in absurd y
 
@@ -104,10 +80,8 @@ accepted-row text kind e = go (demand-three-text text (accepted-search text kind
 nine-search : (text : List ℕ) → due text .number ≡ 9 → WellFormedSearch text
 nine-search text e =
     let nine : firstNumber (faultsOf text) ≡ 9 = sym (due-number text) ∙ e in
-    record {
-      kind-one = nine-is-search text (first-applies (faultsOf text) 8 nine);
-      faultless = λ k a l. let lowest : firstNumber (faultsOf text) ≤ k = first-lowest 0 (faultsOf text) (faults-ascend text) k a in omega arith;
-    }
+    well-formed-exactly text (nine-is-search text (first-applies (faultsOf text) 8 nine)) .1
+    (λ k a l. let lowest : firstNumber (faultsOf text) ≤ k = first-lowest 0 (faultsOf text) (faults-ascend text) k a in omega arith)
 
 -- what is due to a search is 9 exactly if no row has both properties
 nine-of : {text : List ℕ} {d : Answer (List (List ℕ))} → SearchDue text d → (d .number ≡ 9) ↔ NoRow text
@@ -121,14 +95,142 @@ none-exactly text = (
   λ (w, h). nine-of (demand-three-text text w) .1 h,
 )
 
--- whatever space is lent
+-- it is returned exactly where it is due, whatever space is lent
 returned-nine : (m : ℕ) (fits : Bool) → (numberReturned m fits ≡ 9) ↔ (m ≡ 9)
 returned-nine zero true = (λ e. let y : ⊥ = omega arith in absurd y, λ e. let y : ⊥ = omega arith in absurd y)
 returned-nine zero false = (λ e. let y : ⊥ = omega arith in absurd y, λ e. let y : ⊥ = omega arith in absurd y)
 returned-nine (suc m) fits = (λ e. e, λ e. e)
 
-pub none-answered : {text space after : List ℕ} {number size : ℕ} → Answered text space after number size → WellFormedSearch text → (number ≡ 9) ↔ NoRow text
-none-answered {text} a w =
-    let due-nine = nine-of (demand-three-text text w) in
-    let returned = returned-nine (due text .number) _ in
-    (λ e. due-nine .0 (returned .0 (sym (a .leaves .number-is) ∙ e)), λ h. a .leaves .number-is ∙ returned .1 (due-nine .1 h))
+-- without a fault none of 1 to 9 applies
+no-fault : (text : List ℕ) → ((k : ℕ) → Applies (faultsOf text) k → ⊥) → Faultless text
+no-fault text clear =
+    record {
+      none-stated = λ k s. clear k (stated-applies s);
+      row-exists = λ kind h.
+          let nine = none-exactly text .1 (well-formed-exactly text kind .1 (λ k a l. clear k a), h) in
+          let zero = due-number text ∙ none-first (faultsOf text) clear in
+          omega arith;
+    }
+
+-- ---- what a call returns and leaves
+
+-- for a well-formed search: 0 and the text of the row demanded where it fits, 10 where it does not; or 9 and its line
+data SearchLeaves (text space after : List ℕ) (number size : ℕ) : Type 0 where
+  row-left : RowFits text space → number ≡ 0 → RowStands text space after size → SearchLeaves text space after number size
+  short-left : RowTooLong text space → number ≡ 10 → (after ≡ space) × (size ≡ 0) → SearchLeaves text space after number size
+  none-left : NoRow text → number ≡ 9 → (after ≡ writtenAt (lineText (9 ∷ [])) space) × (size ≡ 0) → SearchLeaves text space after number size
+
+module _ {text space after : List ℕ} {number size : ℕ} where
+  left-by : {d : Answer (List (List ℕ))} {written : List (List ℕ)} → SearchDue text d → written ≡ d .value → Leaves d written space after number size
+      → SearchLeaves text space after number size
+  left-by (none-due h) e l = none-left h (l .number-is) (l .bytes, l .size-is ∙ ap (λ (k : ℕ). lengthReturned k (length (answerText []))) (l .number-is))
+  left-by (row-due r h) e l = go (leb long (length space)) refl
+    where
+      long : ℕ
+      long = length (rowText text r)
+
+      size-at : (k : ℕ) → number ≡ k → size ≡ lengthReturned k long
+      size-at k z = l .size-is ∙ ap (λ (k : ℕ). lengthReturned k long) z
+
+      bytes-at : (t : Bool) → leb long (length space) ≡ t → after ≡ cond t (rowText text r ++ drop long space) space
+      bytes-at t f =
+          l .bytes
+          ∙ ap (λ (w : List (List ℕ)). writtenAt (answerText w) space) e
+          ∙ ap (λ (t : Bool). cond t (rowText text r ++ drop long space) space) f
+
+      go : (t : Bool) → leb long (length space) ≡ t → SearchLeaves text space after number size
+      go true f =
+          let z : number ≡ 0 = l .number-is ∙ ap (λ (t : Bool). cond t 0 10) f in
+          row-left (record { row = r; demanded = h; fits = leb-true long (length space) f }) z
+          (record { row = r; demanded = h; at-start = bytes-at true f; is-length = size-at 0 z })
+      go false f =
+          let z : number ≡ 10 = l .number-is ∙ ap (λ (t : Bool). cond t 0 10) f in
+          short-left (record { row = r; demanded = h; too-long = leb-false long (length space) f }) z (bytes-at false f, size-at 10 z)
+
+  -- what each number tells
+  with-nine : SearchLeaves text space after number size → number ≡ 9 → (after ≡ writtenAt (lineText (9 ∷ [])) space) × (size ≡ 0)
+  with-nine (row-left f z s) e = let y : ⊥ = omega arith in absurd y
+  with-nine (short-left f z s) e = let y : ⊥ = omega arith in absurd y
+  with-nine (none-left f z s) e = s
+
+  with-zero : SearchLeaves text space after number size → number ≡ 0 → RowFits text space × RowStands text space after size
+  with-zero (row-left f z s) e = (f, s)
+  with-zero (short-left f z s) e = let y : ⊥ = omega arith in absurd y
+  with-zero (none-left f z s) e = let y : ⊥ = omega arith in absurd y
+
+  with-ten : SearchLeaves text space after number size → number ≡ 10 → RowTooLong text space × ((after ≡ space) × (size ≡ 0))
+  with-ten (row-left f z s) e = let y : ⊥ = omega arith in absurd y
+  with-ten (short-left f z s) e = (f, s)
+  with-ten (none-left f z s) e = let y : ⊥ = omega arith in absurd y
+
+  one-of : SearchLeaves text space after number size → (number ≡ 9) ⊎ ((number ≡ 0) ⊎ (number ≡ 10))
+  one-of (row-left f z s) = inr (inl z)
+  one-of (short-left f z s) = inr (inr z)
+  one-of (none-left f z s) = inl z
+
+  fits-zero : WellFormedSearch text → SearchLeaves text space after number size → RowFits text space → number ≡ 0
+  unfolding NoRow
+  fits-zero w (row-left f z s) g = z
+  fits-zero w (short-left f z s) g = absurd (not-both text w g f)
+  fits-zero w (none-left f z s) g = absurd (f (g .row) (g .demanded .has))
+
+  long-ten : WellFormedSearch text → SearchLeaves text space after number size → RowTooLong text space → number ≡ 10
+  unfolding NoRow
+  long-ten w (row-left f z s) g = absurd (not-both text w f g)
+  long-ten w (short-left f z s) g = z
+  long-ten w (none-left f z s) g = absurd (f (g .row) (g .demanded .has))
+
+  -- a search that is not refused with 1 to 8 is well formed
+  not-refused : Answered text space after number size → kindOf text ≡ 1 → (0 < number → number ≤ 8 → ⊥) → WellFormedSearch text
+  not-refused a kind h = well-formed-exactly text kind .1 (go (first-fault a))
+    where
+      go : FirstFault text space number → (k : ℕ) → Applies (faultsOf text) k → k ≤ 8 → ⊥
+      go (at-fault x low) k y l = let least = low k y in h (applies-above 0 (faultsOf text) (faults-ascend text) number x) (omega arith)
+      go (with-room clear fit z) k y l = clear k y
+      go (without-room clear short z) k y l = clear k y
+
+  pub search-answered : Answered text space after number size → SearchAnswered text space after number size
+  search-answered a =
+      record {
+        nine-exactly = nine;
+        zero-exactly = (λ (kind, z). let w = at-zero kind z in (w, with-zero (left w) z .0), λ (w, f). (w .kind-one, fits-zero w (left w) f));
+        ten-exactly = (λ (kind, z). let w = at-ten kind z in (w, with-ten (left w) z .0), λ (w, f). (w .kind-one, long-ten w (left w) f));
+        nothing-else = λ w. one-of (left w);
+        nine-leaves = λ z. with-nine (left (nine .0 z .0)) z;
+        zero-leaves = λ kind z. with-zero (left (at-zero kind z)) z .1;
+        ten-leaves = λ kind z. with-ten (left (at-ten kind z)) z .1;
+      }
+    where
+      left : WellFormedSearch text → SearchLeaves text space after number size
+      left w =
+          left-by (demand-three-text text w) (may-same (a .allowed) (λ e. let kind = w .kind-one in let y : ⊥ = omega arith in y)) (a .leaves)
+
+      at-zero : kindOf text ≡ 1 → number ≡ 0 → WellFormedSearch text
+      at-zero kind z = not-refused a kind (λ h l. omega arith)
+
+      at-ten : kindOf text ≡ 1 → number ≡ 10 → WellFormedSearch text
+      at-ten kind z = not-refused a kind (λ h l. omega arith)
+
+      nine : (number ≡ 9) ↔ (WellFormedSearch text × NoRow text)
+      nine =
+          let returned = returned-nine (due text .number) _ in
+          (λ e. none-exactly text .0 (returned .0 (sym (a .leaves .number-is) ∙ e)), λ h. a .leaves .number-is ∙ returned .1 (none-exactly text .1 h))
+
+  pub none-answered : Answered text space after number size → WellFormedSearch text → (number ≡ 9) ↔ NoRow text
+  none-answered a w = let nine = search-answered a .nine-exactly in (λ e. nine .0 e .1, λ h. nine .1 (w, h))
+
+  -- ---- the lowest number that applies
+
+  pub lowest-refusal : Answered text space after number size → Lowest text space number
+  lowest-refusal a = go (first-fault a)
+    where
+      go : FirstFault text space number → Lowest text space number
+      go (at-fault x low) =
+          ⊎-elim (λ (l : number ≤ 8). refused (limits-exactly text number l .0 x) (λ k s. low k (stated-applies s)))
+          (λ (l : 8 < number).
+          let most = applies-most 9 (faultsOf text) (faults-to-nine text) number x in
+          let e : number ≡ 9 = omega arith in
+          let (w, h) = search-answered a .nine-exactly .0 e in none w h e)
+          (le-or-lt number 8)
+      go (with-room clear fit z) = accepted (no-fault text clear) fit z
+      go (without-room clear short z) = too-short (no-fault text clear) short z

@@ -3,12 +3,12 @@ use mathlib.Core.Path.{_≡_, refl, sym, _∙_}
 use mathlib.Core.Logic.{_⊎_, inl, inr, ⊎-elim}
 use mathlib.Core.Bool.{Bool, true, false, cond}
 use mathlib.Core.List.{List, [], _∷_}
-use Prim.Native.Nat.{ℕ}
+use Prim.Native.Nat.{ℕ, zero, suc, _≤_}
 use native.Mathlib.Omega.{arith}
-use lib.Dec.{eqb}
+use lib.Dec.{eqb, lit≤}
 use borrow.Author.Tests.{eqb-true}
 use Rattle.refusal.specs.Refusals.{fault, firstNumber, Applies}
-use Rattle.refusal.proofs.Faults.{first-passed, numbered, ascends, lacks, lacks-applies, after-number-is, after-value}
+use Rattle.refusal.proofs.Faults.{first-applies, first-passed, numbered, ascends, most, applies-most, lacks, lacks-applies, after-number-is, after-value}
 use Rattle.field.specs.Faults.{polynomialFaults}
 use Rattle.search.specs.Answer.{searchFaults}
 use Rattle.text.specs.Reading.{kindOf}
@@ -58,13 +58,13 @@ kind-is-search text e = sym (kind-search (kindOf text) e)
 
 -- ---- the faults of a text
 
--- the numbers ascend, and none is 0
+-- the numbers ascend, none is 0, and none is above 9
 abbrev Ordered : Kind → Type 0
-Ordered kind = (r : Request) → (numbered (kind .faults r) ≡ true) × (ascends 1 (kind .faults r) ≡ true)
+Ordered kind = (r : Request) → (numbered (kind .faults r) ≡ true) × (ascends 1 (kind .faults r) ≡ true) × (most 9 (kind .faults r) ≡ true)
 
 ordered : (text : List ℕ) → Ordered (kindIn text)
-unfolding search check survey searchFaults checkFaults surveyFaults polynomialFaults numbered ascends
-ordered text = kind-holds Ordered (λ r. (refl, refl)) (λ r. (refl, refl)) (λ r. (refl, refl)) (λ k r. (refl, refl)) text
+unfolding search check survey searchFaults checkFaults surveyFaults polynomialFaults numbered ascends most
+ordered text = kind-holds Ordered (λ r. (refl, refl, refl)) (λ r. (refl, refl, refl)) (λ r. (refl, refl, refl)) (λ k r. (refl, refl, refl)) text
 
 pub faults-numbered : (text : List ℕ) → numbered (faultsOf text) ≡ true
 unfolding faultsOf numbered
@@ -73,6 +73,10 @@ faults-numbered text = ordered text (requestIn text) .0
 pub faults-ascend : (text : List ℕ) → ascends 0 (faultsOf text) ≡ true
 unfolding faultsOf ascends
 faults-ascend text = ordered text (requestIn text) .1
+
+pub faults-to-nine : (text : List ℕ) → most 9 (faultsOf text) ≡ true
+unfolding faultsOf most
+faults-to-nine text = ordered text (requestIn text) .2
 
 -- 9 is a number of kind 1 alone
 abbrev NineOfSearch : Kind → Type 0
@@ -93,6 +97,13 @@ nine-is-search text a =
 pub due-number : (text : List ℕ) → due text .number ≡ firstNumber (faultsOf text)
 unfolding due
 due-number text = after-number-is [] _ (faultsOf text)
+
+pub due-most : (text : List ℕ) → due text .number ≤ 9
+due-most text = go (due text .number) (sym (due-number text))
+  where
+    go : (m : ℕ) → firstNumber (faultsOf text) ≡ m → m ≤ 9
+    go zero e = lit≤ tt
+    go (suc m) e = applies-most 9 (faultsOf text) (faults-to-nine text) (suc m) (first-applies (faultsOf text) m e)
 
 -- nothing applies: the lines are due, and the kind's own faults are not there
 pub due-lines-of : (text : List ℕ) → due text .number ≡ 0 → due text .value ≡ kindIn text .lines (requestIn text)

@@ -53,8 +53,8 @@ values-stored s i l v h e d =
     (set-at (valuesFrom s 0 i) 0 zeros (valueAt s i) i (length-valuesFrom s 0 i) ∙ sym (append-snoc (valuesFrom s 0 i) (valueAt s i) zeros))
 
 -- of more than 255 values none is looked at: the order or the count is wrong
-abbrev countFaults : ℕ → List Fault
-countFaults n = fault 5 (isWrongSearchOrder n) ∷ fault 6 true ∷ []
+abbrev manyFaults : ℕ → List Fault
+manyFaults n = fault 5 (isWrongSearchOrder n) ∷ fault 6 true ∷ []
 
 many-wrong : (n count : ℕ) → isWrongSearchOrder n ≡ false → 255 < count → isWrongSearchCount n count ≡ true
 many-wrong n count e h =
@@ -63,11 +63,14 @@ many-wrong n count e h =
     (λ (q : n ≡ 8). sym (count-eight n count some q) ∙ lt-ltb 16 count (omega arith)) (order-of n e)
 
 many : ℕ → ℕ → ℕ
-many p n = firstNumber (polynomialFaults p ++ countFaults n)
+many p n = firstNumber (polynomialFaults p ++ manyFaults n)
 
 many-first : (p n : ℕ) (values : List ℕ) → 255 < length values → firstNumber (searchFaults p n values (lightestRow hadamardShape p n values)) ≡ many p n
-unfolding searchFaults firstNumber many
-many-first p n values h = first-behind (polynomialFaults p) _ (countFaults n) (go (isWrongSearchOrder n) refl _)
+unfolding searchFaults polynomialFaults firstNumber many
+many-first p n values h =
+    let behind = fault 7 (someTooLarge p values) ∷ fault 8 (someBad values) ∷ fault 9 (isNone (lightestRow hadamardShape p n values)) ∷ [] in
+    first-behind (polynomialFaults p) (fault 5 (isWrongSearchOrder n) ∷ fault 6 (isWrongSearchCount n (length values)) ∷ behind) (manyFaults n)
+    (go (isWrongSearchOrder n) refl (firstNumber behind))
   where
     go : (b : Bool) → isWrongSearchOrder n ≡ b → (rest : ℕ) → _≡_ {A = ℕ} (cond b 5 (cond (isWrongSearchCount n (length values)) 6 rest)) (cond b 5 6)
     go true e rest = refl
@@ -75,7 +78,7 @@ many-first p n values h = first-behind (polynomialFaults p) _ (countFaults n) (g
 
 many-told : (p n : ℕ) → many p n ≡ 0 → ⊥
 unfolding many polynomialFaults numbered firstNumber
-many-told p n e = go (isWrongSearchOrder n) (first-parts (polynomialFaults p) (countFaults n) refl e .1)
+many-told p n e = go (isWrongSearchOrder n) (first-parts (polynomialFaults p) (manyFaults n) refl e .1)
   where
     go : (b : Bool) → _≡_ {A = ℕ} (cond b 5 6) 0 → ⊥
     go true f = omega arith
@@ -122,7 +125,7 @@ unfolding lightestRow
 found-over p n values row e = mem-rows (2 ^ degree p) values n row .0 (row-sorted (isGood hadamardShape p n) (keyOf p n) (sorted-rows (2 ^ degree p) values n) row e .isRow)
 
 pub search-accepted : (p n : ℕ) (values : List ℕ) → firstNumber (searchFaults p n values (lightestRow hadamardShape p n values)) ≡ 0 → Accepted p n values
-unfolding searchFaults
+unfolding searchFaults polynomialFaults
 search-accepted p n values e =
     let (modulus, e₄) = modulus-parts p _ e in
     let (order, e₅) = first-passed 5 0 (isWrongSearchOrder n) _ (λ h. omega arith) e₄ in

@@ -5,8 +5,14 @@ pub mod Values
 pub mod Found
 pub mod Surveys
 pub mod EveryKind
+pub mod Limits
 pub mod Demands
+pub mod WellFormed
 pub mod DemandThree
 pub mod Acceptance
 pub mod Shown
+pub mod WholeInput
+pub mod SurveyLines
 pub mod Lines
+pub mod RowCounts
+pub mod FewCandidates

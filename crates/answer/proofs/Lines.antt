@@ -3,35 +3,39 @@
 -- Assumes nothing.
 use mathlib.Core.Path.{_≡_, refl, sym, ap, _∙_}
 use mathlib.Core.Bool.{Bool, true, false, _&&_}
+use mathlib.Core.Logic.{_≢_}
 use mathlib.Core.List.{List, [], _∷_, _++_}
 use Prim.Native.Nat.{ℕ, _≤_}
 use native.Mathlib.Omega.{arith}
-use lib.Dec.{leb}
+use lib.Dec.{leb, lit≤}
+use Prim.Native.String.{String}
 use lib.ListN.{length}
 use borrow.Author.Tests.{leb-true}
-use Rattle.algebra.specs.Matrix.{tabulate, upTo, before, words, sum, apply, weight, activity, leastActivity, branchNumber, isMds, sameWords, givesBack, isInvolution}
+use Rattle.algebra.specs.Matrix.{tabulate, upTo, before, words, sum, apply, skip, without, det, weight, activity, leastActivity, branchNumber, isMds, sameWords, givesBack, isInvolution}
 use Rattle.algebra.proofs.Involution.{and-left, and-right}
 use Rattle.refusal.specs.Refusals.{firstNumber, Answer, answer, unlessRefused, answerAfter}
-use Rattle.refusal.proofs.Faults.{after-left}
+use Rattle.refusal.proofs.Faults.{after-left, after-number-is}
 use lib.Count.{ones, onesIn}
-use Rattle.field.specs.Polynomial.{_⊕_, _⊗_, digitsWithin, overDigits, degree, reduce, rem, product, onesInColumns, xorCount, someBelow, isIrreducible}
+use Rattle.field.specs.Polynomial.{_⊕_, _⊗_, digitsWithin, overDigits, degree, reduce, rem, product, onesInColumns, xorCount, someBelow, Irreducible, isIrreducible}
+use Rattle.field.proofs.Irreducibility.{irreducible-to}
 use Rattle.field.specs.Table.{polynomials, passing}
-use Rattle.field.specs.Faults.{isOutside, isTooLarge, polynomialFaults}
+use Rattle.field.specs.Faults.{isOutside, isTooLarge, polynomialFaults, inverseFaults}
 use Rattle.matrix.specs.Numbers.{elements}
 use Rattle.matrix.specs.Counts.{total, elementCount, rowCount, matrixCount}
-use Rattle.matrix.specs.Answers.{checkOf, isWrongOrder}
-use Rattle.search.specs.Lightest.{member, Best}
+use Rattle.matrix.specs.Answers.{checkOf, isWrongOrder, isWrongHalvedOrder, someWordTooLarge, someEntryTooLarge, determinantFaults, matrixFaults, halvedFaults}
+use Rattle.search.specs.Lightest.{member, Best, nothing, found}
 use Rattle.search.specs.Shape.{hadamardShape}
 use Rattle.search.specs.Answer.{isWrongSearchOrder, isWrongSearchCount, someTooLarge, someRepeated, someBad, sumOf, lightestRow, searchFaults}
 use Rattle.search.proofs.Executable.{over-nineteen}
+use Rattle.search.proofs.Rows.{not-passed}
 use Rattle.text.specs.Reading.{inForm}
 use Rattle.text.specs.Text.{columnByte, column, columns, lineText, lineEnd, valueText, requestText, answerText, SixDigits}
 use Rattle.text.proofs.Lengths.{length-request}
 use Rattle.text.proofs.Form.{six-none, six-more}
 use Rattle.text.proofs.Requests.{ReadAs, written-read}
 use Rattle.answer.specs.Due.{request, rowLines, bestLines, search, checkFaults, entriesOf, checkLines, check, surveyFaults, surveyLine, surveyLines, survey, kinds, kindAmong, dueTo, kindIn, requestIn, faultsOf, due}
-use Rattle.answer.specs.Answered.{Rearranged, same, more, swapped, further, MayWrite, due-lines, survey-lines}
-use Rattle.answer.specs.Reference.{ReferenceLine, texts, power, IsDue, ReferenceSays, AllReferenceSay, all-none, _and_, elementLines, searches, checks, example, referenceLines}
+use Rattle.answer.specs.Answered.{Rearranged, same, more, swapped, further, MayWrite, due-lines, survey-lines, textOf}
+use Rattle.answer.specs.Reference.{ReferenceLine, texts, power, IsDue, ReferenceSays, AllReferenceSay, all-none, _and_, elementLines, searches, checks, refusals, from-one, limits, bytesOf, example, referenceLines}
 
 -- ---- from the numbers of a request to its text
 
@@ -120,15 +124,15 @@ all-append all-none k = k
 all-append (h and rest) k = h and all-append rest k
 
 -- whole texts
-and-texts : {question reply : List ℕ} {rest : List ReferenceLine} (l : List (List ℕ)) → IsDue question (answer 0 l) → answerText l ≡ reply → AllReferenceSay rest
-    → AllReferenceSay (texts question reply ∷ rest)
+and-texts : {question reply : List String} {rest : List ReferenceLine} (d : Answer (List (List ℕ))) → IsDue (bytesOf question) d
+    → textOf (d .number) (d .value) ≡ bytesOf reply → AllReferenceSay rest → AllReferenceSay (texts question reply ∷ rest)
 unfolding ReferenceSays
-and-texts l h e rest = _and_ {line = texts _ _} (l, h, e) rest
+and-texts d h e rest = _and_ {line = texts _ _} (d, h, e) rest
 
 -- the elements, the searches, the example and the checks, line by line
 elements-hold : AllReferenceSay elementLines
-unfolding ReferenceSays elementLines power xorCount onesInColumns ones onesIn product rem reduce degree overDigits digitsWithin _⊗_ _⊕_
-elements-hold = refl and refl and refl and refl and all-none
+unfolding ReferenceSays elementLines power det sum without skip entriesOf xorCount onesInColumns ones onesIn product rem reduce degree overDigits digitsWithin _⊗_ _⊕_
+elements-hold = refl and refl and refl and refl and refl and refl and all-none
 
 searches-hold : AllReferenceSay searches
 unfolding ReferenceSays searches fits allSix isOutside isIrreducible someBelow searchFaults polynomialFaults firstNumber isWrongSearchOrder isWrongSearchCount someTooLarge isTooLarge someBad someRepeated member sumOf rowLines rowCount elementCount total xorCount onesInColumns ones onesIn product rem reduce degree overDigits digitsWithin _⊗_ _⊕_
@@ -144,20 +148,60 @@ searches-hold =
     and all-none
 
 example-holds : AllReferenceSay example
-unfolding ReferenceSays example fits allSix isOutside isIrreducible someBelow searchFaults polynomialFaults firstNumber isWrongSearchOrder isWrongSearchCount someTooLarge isTooLarge someBad someRepeated member sumOf rowLines rowCount elementCount total xorCount onesInColumns ones onesIn product rem reduce degree overDigits digitsWithin _⊗_ _⊕_ requestText answerText lineText columns column columnByte valueText lineEnd
+unfolding ReferenceSays example fits allSix isOutside isIrreducible someBelow searchFaults polynomialFaults firstNumber isWrongSearchOrder isWrongSearchCount someTooLarge isTooLarge someBad someRepeated member sumOf rowLines rowCount elementCount total xorCount onesInColumns ones onesIn product rem reduce degree overDigits digitsWithin _⊗_ _⊕_ requestText answerText lineText columns column columnByte valueText lineEnd tabulate bytesOf
 example-holds =
     let worked = is-due 1 19 4 (1 ∷ 4 ∷ 9 ∷ 13 ∷ []) refl _ (fixed 1 _ (λ h. omega arith)) (search-due 19 4 _ _ (over-nineteen .3)) in
-    worked and and-texts _ worked refl all-none
+    let seventeen = is-due 1 19 8 (from-one 17) refl (answer 6 []) (fixed 1 [] (λ h. omega arith)) (search-due 19 8 _ _ refl) in
+    worked and and-texts _ worked refl (and-texts _ seventeen refl all-none)
 
 checks-hold : AllReferenceSay checks
 unfolding ReferenceSays checks fits allSix dueTo kinds kindAmong search check survey answerAfter firstNumber checkFaults polynomialFaults isWrongOrder checkLines checkOf entriesOf matrixCount elementCount total isOutside isIrreducible someBelow someTooLarge isTooLarge branchNumber leastActivity activity weight words before tabulate upTo elements apply sum isMds isInvolution givesBack sameWords surveyFaults surveyLines surveyLine polynomials passing xorCount onesInColumns ones onesIn product rem reduce degree overDigits digitsWithin _⊗_ _⊕_
 checks-hold =
     is-due 2 7 2 _ refl _ (fixed 2 _ (λ h. omega arith)) refl
     and is-due 2 7 1 _ refl _ (fixed 2 _ (λ h. omega arith)) refl
+    and is-due 2 7 2 _ refl _ (fixed 2 _ (λ h. omega arith)) refl
     and is-due 3 2 0 _ refl _ (fixed-survey _ _) refl
+    and due-request 3 3 0 [] refl
+    and all-none
+
+refusals-hold : AllReferenceSay refusals
+unfolding ReferenceSays refusals firstNumber inverseFaults determinantFaults matrixFaults halvedFaults polynomialFaults isOutside isIrreducible isTooLarge isWrongOrder isWrongHalvedOrder someEntryTooLarge someWordTooLarge someBelow degree overDigits digitsWithin _⊗_ _⊕_
+refusals-hold = refl and refl and refl and refl and refl and refl and refl and refl and all-none
+
+-- a check over a polynomial with two factors
+with-factors : (p n : ℕ) (values : List ℕ) → isOutside p ≡ false → (a b : ℕ) → 2 ≤ a → 2 ≤ b → a ⊗ b ≡ p
+    → dueTo (kindAmong kinds 2) (request p n values) ≡ answer 4 []
+unfolding dueTo kinds kindAmong search check answerAfter firstNumber checkFaults polynomialFaults
+with-factors p n values inside a b l m e =
+    let reducible = not-passed (isIrreducible p) (λ t. unfold Irreducible in irreducible-to p t a b l m e) in rw (inside, reducible) refl
+
+-- sixteen candidates at order 8, whatever row is the lightest
+sixteen : (best : Best) → firstNumber (searchFaults 37 8 (from-one 16) best) ≢ 6
+unfolding firstNumber searchFaults polynomialFaults isOutside isIrreducible someBelow isWrongSearchOrder isWrongSearchCount someTooLarge isTooLarge someBad someRepeated member degree overDigits digitsWithin _⊗_ _⊕_ tabulate
+sixteen nothing e = omega arith
+sixteen (found row) e = omega arith
+
+not-six : due (requestText 1 37 8 (from-one 16)) .number ≢ 6
+unfolding fits allSix tabulate dueTo kinds kindAmong search
+not-six e =
+    sixteen (lightestRow hadamardShape 37 8 (from-one 16))
+    (sym (after-number-is {A = List (List ℕ)} [] (bestLines 37 8 (lightestRow hadamardShape 37 8 (from-one 16))) (searchFaults 37 8 (from-one 16) (lightestRow hadamardShape 37 8 (from-one 16))))
+    ∙ sym (ap (λ (d : Answer (List (List ℕ))). d .number) (due-request 1 37 8 (from-one 16) refl)) ∙ e)
+
+-- the limits
+limits-hold : AllReferenceSay limits
+unfolding ReferenceSays limits fits allSix dueTo kinds kindAmong search check answerAfter firstNumber checkFaults searchFaults polynomialFaults isOutside isIrreducible someBelow isWrongSearchOrder isWrongSearchCount someTooLarge isTooLarge someBad someRepeated member degree overDigits digitsWithin _⊗_ _⊕_ tabulate
+limits-hold =
+    is-due 2 3 1 _ refl _ (fixed 2 _ (λ h. omega arith)) refl
+    and is-due 2 21 1 (0 ∷ []) refl (answer 4 []) (fixed 2 [] (λ h. omega arith)) (with-factors 21 1 (0 ∷ []) refl 7 7 (lit≤ tt) (lit≤ tt) refl)
+    and is-due 2 511 1 (0 ∷ []) refl (answer 4 []) (fixed 2 [] (λ h. omega arith)) (with-factors 511 1 (0 ∷ []) refl 7 73 (lit≤ tt) (lit≤ tt) refl)
+    and is-due 2 512 1 _ refl _ (fixed 2 _ (λ h. omega arith)) refl
+    and not-six
+    and is-due 1 37 8 _ refl _ (fixed 1 _ (λ h. omega arith)) refl
+    and is-due 1 37 4 _ refl _ (fixed 1 _ (λ h. omega arith)) refl
     and all-none
 
 -- every line of the table
 pub lines-hold : AllReferenceSay referenceLines
 unfolding referenceLines
-lines-hold = all-append (all-append (all-append elements-hold searches-hold) checks-hold) example-holds
+lines-hold = all-append (all-append (all-append (all-append (all-append elements-hold searches-hold) checks-hold) refusals-hold) limits-hold) example-holds

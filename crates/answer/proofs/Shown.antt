@@ -6,28 +6,12 @@ use Prim.Native.Nat.{ℕ, zero, suc, _≤_}
 use native.Mathlib.Omega.{arith}
 use borrow.Author.Tests.{le-leb}
 use lib.ListN.{length, drop, length-append}
-use Rattle.text.specs.Text.{lineText, answerText}
+use Rattle.text.specs.Text.{answerText}
 use Rattle.text.proofs.Lengths.{length-line}
 use Rattle.answer.specs.Due.{due}
-use Rattle.answer.specs.Answered.{Rearranged, same, more, swapped, further, textOf, lengthReturned, writtenAt, Answered, Shown}
+use Rattle.answer.specs.Answered.{textOf, lengthReturned, writtenAt, Answered, Shown}
 use Rattle.answer.proofs.Acceptance.{answer-short}
-use Rattle.answer.proofs.Demands.{may-rearranged}
-
--- the order of lines does not change the length
-rearranged-length : {l r : List (List ℕ)} → Rearranged l r → length (answerText l) ≡ length (answerText r)
-unfolding answerText
-rearranged-length same = refl
-rearranged-length (more {x = x} {l = l} {r = r} s) =
-    omega (arith, rearranged-length s, length-append (lineText x) (answerText l), length-append (lineText x) (answerText r))
-rearranged-length (swapped {x = x} {y = y} {l = l}) =
-    omega (
-      arith,
-      length-append (lineText x) (lineText y ++ answerText l),
-      length-append (lineText y) (answerText l),
-      length-append (lineText y) (lineText x ++ answerText l),
-      length-append (lineText x) (answerText l),
-    )
-rearranged-length (further s t) = rearranged-length s ∙ rearranged-length t
+use Rattle.answer.proofs.Demands.{may-rearranged, rearranged-length}
 
 -- a text that fits stands at the start
 fits-front : (text space : List ℕ) → length text ≤ length space → writtenAt text space ≡ text ++ drop (length text) space

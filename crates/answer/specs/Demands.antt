@@ -1,13 +1,16 @@
 -- Demands 1 and 3 of request texts, in the customer's words. Assumes nothing.
 use mathlib.Core.Path.{_≡_}
-use mathlib.Core.List.{List, []}
+use mathlib.Core.Logic.{_↔_, _⊎_}
+use mathlib.Core.List.{List, [], _∷_, _++_}
 use Prim.Native.Nat.{ℕ, _≤_, _<_}
-use lib.ListN.{length}
-use Rattle.refusal.specs.Refusals.{Applies, Answer, answer}
+use lib.ListN.{length, take, drop}
+use Rattle.refusal.specs.Refusals.{Answer, answer}
 use Rattle.search.specs.Demands.{Both, Demanded}
-use Rattle.text.specs.Text.{answerText}
+use Rattle.text.specs.Text.{lineText, answerText}
 use Rattle.text.specs.Reading.{kindOf, polynomialOf, orderOf, valuesOf}
-use Rattle.answer.specs.Due.{rowLines, faultsOf, due}
+use Rattle.answer.specs.Due.{rowLines, due}
+use Rattle.answer.specs.Limits.{StatedOf}
+use Rattle.answer.specs.Answered.{MayWrite, writtenAt}
 
 -- ---- demand 1
 
@@ -17,24 +20,115 @@ pub record OneAnswer (text after after′ : List ℕ) (number number′ size siz
   pub one-size : size ≡ size′
   pub one-space : (kindOf text ≡ 3 → ⊥) → after ≡ after′
 
--- the number returned is the lowest that applies; where none of 1 to 9 does, 0, or 10 if the lent space is shorter than the answer due
-pub data Lowest (text space : List ℕ) (number : ℕ) : Type 0 where
-  refused : Applies (faultsOf text) number → ((k : ℕ) → Applies (faultsOf text) k → number ≤ k) → Lowest text space number
-  accepted : ((k : ℕ) → Applies (faultsOf text) k → ⊥) → length (answerText (due text .value)) ≤ length space → number ≡ 0 → Lowest text space number
-  too-short : ((k : ℕ) → Applies (faultsOf text) k → ⊥) → length space < length (answerText (due text .value)) → number ≡ 10 → Lowest text space number
+-- the answer text stands at the start of the lent space, its length is returned, and the bytes behind it keep their contents
+pub record AnswerStands (text space after : List ℕ) (size : ℕ) : Type 0 where
+  pub lines : List (List ℕ)
+  pub may-write : MayWrite (kindOf text) (due text .value) lines
+  pub at-start : after ≡ answerText lines ++ drop size space
+  pub is-length : size ≡ length (answerText lines)
+
+-- what a call leaves in the lent space, by the number that it returns
+pub record BytesLeft (text space after : List ℕ) (number size : ℕ) : Type 0 where
+  pub as-long : length after ≡ length space
+  -- 0: the answer
+  pub zero-left : number ≡ 0 → AnswerStands text space after size
+  -- 1 to 9: one line with that number, and the bytes behind it keep their contents
+  pub line-left : (number ≡ 0 → ⊥) → (number ≡ 10 → ⊥) → 7 ≤ length space → after ≡ lineText (number ∷ []) ++ drop 7 space
+  -- 1 to 9 with fewer than seven bytes lent, and 10: no byte changes
+  pub few-left : (number ≡ 0 → ⊥) → length space < 7 → after ≡ space
+  pub ten-left : number ≡ 10 → after ≡ space
+
+-- two answer texts to a request of a kind: the same lines, but for the order that is open
+pub record SameLines (kind : ℕ) (reply reply′ : List ℕ) : Type 0 where
+  pub lines : List (List ℕ)
+  pub lines′ : List (List ℕ)
+  pub is-text : reply ≡ answerText lines
+  pub is-text′ : reply′ ≡ answerText lines′
+  pub may-write : MayWrite kind lines lines′
+
+-- two calls of the same request with any two lent spaces, in either order: what the one returns tells what the other returns
+pub record AnySpace (text space space′ after after′ : List ℕ) (number number′ size size′ : ℕ) : Type 0 where
+  -- refused with 1 to 9: refused with the same number, whatever space is lent
+  pub refused-alike : (number ≡ 0 → ⊥) → (number ≡ 10 → ⊥) → number′ ≡ number
+  -- accepted: accepted in every space that is as long as the answer, and 10 in every shorter one
+  pub accepted-alike : number ≡ 0 → size ≤ length space′ → number′ ≡ 0
+  pub ten-if-shorter : number ≡ 0 → length space′ < size → number′ ≡ 10
+  -- the same number: the same length
+  pub same-length : number ≡ number′ → size ≡ size′
+  -- both accepted: the same answer text; a survey's, up to the order of its lines after the first
+  pub same-text : number ≡ 0 → number′ ≡ 0 → (kindOf text ≡ 3 → ⊥) → take size after ≡ take size′ after′
+  pub same-survey : number ≡ 0 → number′ ≡ 0 → SameLines (kindOf text) (take size after) (take size′ after′)
+  -- refused with 1 to 9: the same line, where seven bytes are lent to both
+  pub same-line : (number ≡ 0 → ⊥) → (number ≡ 10 → ⊥) → 7 ≤ length space → 7 ≤ length space′ → take 7 after ≡ take 7 after′
 
 -- ---- demand 3
 
 -- a well-formed search: kind 1, and none of the numbers 1 to 8 applies
 pub record WellFormedSearch (text : List ℕ) : Type 0 where
   pub kind-one : kindOf text ≡ 1
-  pub faultless : (k : ℕ) → Applies (faultsOf text) k → k ≤ 8 → ⊥
+  pub faultless : (k : ℕ) → StatedOf text k → ⊥
 
 -- no row over the candidates has both properties
 unfoldable pub NoRow : List ℕ → Type 0
 NoRow text = (r : List ℕ) → Both (polynomialOf text) (orderOf text) (valuesOf text) r → ⊥
 
+-- the row that a search demands, and the answer text of a row
+abbrev pub DemandedBy : List ℕ → List ℕ → Type 0
+DemandedBy text row = Demanded (polynomialOf text) (orderOf text) (valuesOf text) row
+
+abbrev pub rowText : List ℕ → List ℕ → List ℕ
+rowText text row = answerText (rowLines (polynomialOf text) (orderOf text) row)
+
 -- what is due to a search: the lines of the row demanded; or 9, and no row has both properties
 pub data SearchDue (text : List ℕ) : Answer (List (List ℕ)) → Type 0 where
-  row-due : (r : List ℕ) → Demanded (polynomialOf text) (orderOf text) (valuesOf text) r → SearchDue text (answer 0 (rowLines (polynomialOf text) (orderOf text) r))
+  row-due : (r : List ℕ) → DemandedBy text r → SearchDue text (answer 0 (rowLines (polynomialOf text) (orderOf text) r))
   none-due : NoRow text → SearchDue text (answer 9 [])
+
+-- there is a row demanded, and its text fits the lent space
+pub record RowFits (text space : List ℕ) : Type 0 where
+  pub row : List ℕ
+  pub demanded : DemandedBy text row
+  pub fits : length (rowText text row) ≤ length space
+
+-- there is a row demanded, and the lent space is shorter than its text
+pub record RowTooLong (text space : List ℕ) : Type 0 where
+  pub row : List ℕ
+  pub demanded : DemandedBy text row
+  pub too-long : length space < length (rowText text row)
+
+-- the text of the row demanded stands at the start of the space, the bytes behind it are as before, and its length is returned
+pub record RowStands (text space after : List ℕ) (size : ℕ) : Type 0 where
+  pub row : List ℕ
+  pub demanded : DemandedBy text row
+  pub at-start : after ≡ rowText text row ++ drop (length (rowText text row)) space
+  pub is-length : size ≡ length (rowText text row)
+
+-- what a call returns and leaves for a search
+pub record SearchAnswered (text space after : List ℕ) (number size : ℕ) : Type 0 where
+  -- 9, whatever space is lent, exactly to a well-formed search over whose candidates no row has both properties
+  pub nine-exactly : (number ≡ 9) ↔ (WellFormedSearch text × NoRow text)
+  -- 0 for a search exactly if it is well formed and the text of the row demanded fits the space
+  pub zero-exactly : ((kindOf text ≡ 1) × (number ≡ 0)) ↔ (WellFormedSearch text × RowFits text space)
+  -- 10 for a search exactly if it is well formed and the space is shorter than that text
+  pub ten-exactly : ((kindOf text ≡ 1) × (number ≡ 10)) ↔ (WellFormedSearch text × RowTooLong text space)
+  -- nothing else is returned for a well-formed search
+  pub nothing-else : WellFormedSearch text → (number ≡ 9) ⊎ ((number ≡ 0) ⊎ (number ≡ 10))
+  -- with 9 its line is left, where it fits; with 0 the text of that row; with 10 no byte changes
+  pub nine-leaves : number ≡ 9 → (after ≡ writtenAt (lineText (9 ∷ [])) space) × (size ≡ 0)
+  pub zero-leaves : kindOf text ≡ 1 → number ≡ 0 → RowStands text space after size
+  pub ten-leaves : kindOf text ≡ 1 → number ≡ 10 → (after ≡ space) × (size ≡ 0)
+
+-- ---- the refusals of demand 1
+
+-- none of the numbers 1 to 9 applies
+pub record Faultless (text : List ℕ) : Type 0 where
+  pub none-stated : (k : ℕ) → StatedOf text k → ⊥
+  pub row-exists : kindOf text ≡ 1 → NoRow text → ⊥
+
+-- the number returned is the lowest that applies: of 1 to 8 the lowest that is stated of the text; 9 where none of them is and no row of a
+-- search has both properties; where none of 1 to 9 applies, 0, or 10 if the lent space is shorter than the answer due
+pub data Lowest (text space : List ℕ) (number : ℕ) : Type 0 where
+  refused : StatedOf text number → ((k : ℕ) → StatedOf text k → number ≤ k) → Lowest text space number
+  none : WellFormedSearch text → NoRow text → number ≡ 9 → Lowest text space number
+  accepted : Faultless text → length (answerText (due text .value)) ≤ length space → number ≡ 0 → Lowest text space number
+  too-short : Faultless text → length space < length (answerText (due text .value)) → number ≡ 10 → Lowest text space number

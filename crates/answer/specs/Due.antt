@@ -1,14 +1,14 @@
 -- What is due to a request text, in the words of document 01: what a request is; for each kind its faults in the order in which they are
 -- looked at, and its lines; the table of kinds; and what is due. Assumes nothing.
-use mathlib.Core.Bool.{true, not, cond, _||_}
-use mathlib.Core.List.{List, [], _∷_, _++_, map}
+use mathlib.Core.Bool.{true, false, not, cond, _||_}
+use mathlib.Core.List.{List, [], _∷_, map}
 use Prim.Native.Nat.{ℕ, suc, _+_, _-_, _*_, _^_}
 use lib.Dec.{eqb, ltb}
 use lib.ListN.{length, getD}
 use Rattle.refusal.specs.Refusals.{Fault, fault, Answer, answerAfter}
 use Rattle.field.specs.Polynomial.{degree, xorCount}
 use Rattle.field.specs.Table.{polynomials}
-use Rattle.field.specs.Faults.{polynomialFaults}
+use Rattle.field.specs.Faults.{callFaults}
 use Rattle.matrix.specs.Counts.{total}
 use Rattle.matrix.specs.Answers.{checkOf, isWrongOrder}
 use Rattle.search.specs.Lightest.{Best, nothing, found}
@@ -54,12 +54,7 @@ search =
 
 -- order n from 1 to 8, count n·n
 unfoldable pub checkFaults : ℕ → ℕ → List ℕ → List Fault
-checkFaults p n values =
-    polynomialFaults p
-    ++ fault 5 (isWrongOrder n)
-    ∷ fault 6 (not (eqb (length values) (n * n)))
-    ∷ fault 7 (someTooLarge p values)
-    ∷ []
+checkFaults p n values = callFaults p (isWrongOrder n) (not (eqb (length values) (n * n))) (someTooLarge p values) false
 
 -- the entries line by line
 unfoldable pub entriesOf : ℕ → List ℕ → ℕ → ℕ → ℕ

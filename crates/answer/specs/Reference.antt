@@ -1,13 +1,22 @@
--- The reference lines of document 01 that are marked P, as one table; and its example of a search, whole. Assumes nothing.
+-- The reference lines of document 01 that are marked P, as one table, with the limits of its last point, its example of a search,
+-- whole, and lines that tell apart what the others cannot. Assumes nothing.
 use mathlib.Core.Path.{_≡_}
+use mathlib.Core.Logic.{_≢_}
 use mathlib.Core.List.{List, [], _∷_, _++_, map, foldl}
 use Prim.Native.Nat.{ℕ, zero, suc}
+use Prim.Native.Char.{code}
+use Prim.Native.String.{String, len, charAt}
+use lib.ListN.{replicate}
+use Rattle.algebra.specs.Matrix.{tabulate, det}
 use Rattle.field.specs.Polynomial.{_⊕_, product, xorCount}
-use Rattle.refusal.specs.Refusals.{Answer, answer}
-use Rattle.text.specs.Text.{requestText, answerText}
+use Rattle.field.specs.Faults.{inverseFaults}
+use Rattle.matrix.specs.Numbers.{numbers}
+use Rattle.matrix.specs.Answers.{determinantFaults, matrixFaults, halvedFaults}
+use Rattle.refusal.specs.Refusals.{Fault, firstNumber, Answer, answer}
+use Rattle.text.specs.Text.{requestText}
 use Rattle.text.specs.Reading.{kindOf}
-use Rattle.answer.specs.Due.{due}
-use Rattle.answer.specs.Answered.{MayWrite}
+use Rattle.answer.specs.Due.{entriesOf, due}
+use Rattle.answer.specs.Answered.{MayWrite, textOf}
 
 -- a line of the table
 pub data ReferenceLine : Type 0 where
@@ -18,14 +27,27 @@ pub data ReferenceLine : Type 0 where
   powers : ℕ → ℕ → ℕ → ℕ → ReferenceLine
   -- these elements exclusive-or to this
   sums : List ℕ → ℕ → ReferenceLine
+  -- over the polynomial the matrix of this order with these entries has this determinant
+  determinants : ℕ → ℕ → List ℕ → ℕ → ReferenceLine
   -- to the request of this kind, polynomial, order and values this is due
   requests : ℕ → ℕ → ℕ → List ℕ → Answer (List (List ℕ)) → ReferenceLine
-  -- to this request text, byte by byte, this is the answer text
-  texts : List ℕ → List ℕ → ReferenceLine
+  -- a library call that may be refused so is refused with this number; 0: it is accepted
+  calls : List Fault → ℕ → ReferenceLine
+  -- such a request is not refused with this number
+  not-given : ℕ → ℕ → ℕ → List ℕ → ℕ → ReferenceLine
+  -- to a survey of this degree these lines are due, those after the first in any order
+  surveys : ℕ → List (List ℕ) → ReferenceLine
+  -- to the request text of these lines, byte by byte, the text of these lines is written
+  texts : List String → List String → ReferenceLine
 
 unfoldable pub power : ℕ → ℕ → ℕ → ℕ
 power p a zero = 1
 power p a (suc k) = product p (power p a k) a
+
+-- the bytes of a text: those of each line, and byte 10
+unfoldable pub bytesOf : List String → List ℕ
+bytesOf [] = []
+bytesOf (line ∷ rest) = tabulate (len line) (λ i. code (charAt line i)) ++ 10 ∷ bytesOf rest
 
 -- this is due to the text, and no other lines may be written
 pub record IsDue (text : List ℕ) (d : Answer (List (List ℕ))) : Type 0 where
@@ -38,8 +60,12 @@ ReferenceSays (counts p elements numbers) = map (xorCount p) elements ≡ number
 ReferenceSays (products p a b c) = product p a b ≡ c
 ReferenceSays (powers p a k c) = power p a k ≡ c
 ReferenceSays (sums elements total) = foldl _⊕_ 0 elements ≡ total
+ReferenceSays (determinants p n entries c) = det (numbers p) n (entriesOf n entries) ≡ c
 ReferenceSays (requests kind polynomial order values d) = IsDue (requestText kind polynomial order values) d
-ReferenceSays (texts request reply) = (l : List (List ℕ)) × IsDue request (answer 0 l) × (answerText l ≡ reply)
+ReferenceSays (calls faults number) = firstNumber faults ≡ number
+ReferenceSays (not-given kind polynomial order values number) = due (requestText kind polynomial order values) .number ≢ number
+ReferenceSays (surveys degree lines) = due (requestText 3 degree 0 []) ≡ answer 0 lines
+ReferenceSays (texts request reply) = (d : Answer (List (List ℕ))) × IsDue (bytesOf request) d × (textOf (d .number) (d .value) ≡ bytesOf reply)
 
 infixr 60 _and_
 -- every line of a table holds
@@ -47,13 +73,15 @@ pub data AllReferenceSay : List ReferenceLine → Type 0 where
   all-none : AllReferenceSay []
   _and_ : {line : ReferenceLine} {rest : List ReferenceLine} → ReferenceSays line → AllReferenceSay rest → AllReferenceSay (line ∷ rest)
 
--- elements over 19, and over 31
+-- elements over 19, and over 31; determinants
 unfoldable pub elementLines : List ReferenceLine
 elementLines =
     counts 19 (0 ∷ 1 ∷ 2 ∷ 3 ∷ 4 ∷ 5 ∷ 6 ∷ 7 ∷ 8 ∷ 9 ∷ 10 ∷ 11 ∷ 12 ∷ 13 ∷ 14 ∷ 15 ∷ []) (0 ∷ 0 ∷ 1 ∷ 5 ∷ 2 ∷ 6 ∷ 5 ∷ 9 ∷ 3 ∷ 1 ∷ 8 ∷ 6 ∷ 5 ∷ 3 ∷ 8 ∷ 6 ∷ []) ∷
     products 19 2 9 1 ∷
     products 19 8 15 1 ∷
     powers 31 2 5 1 ∷
+    determinants 19 2 (2 ∷ 3 ∷ 4 ∷ 5 ∷ []) 6 ∷
+    determinants 19 3 (1 ∷ 2 ∷ 3 ∷ 4 ∷ 5 ∷ 6 ∷ 7 ∷ 8 ∷ 9 ∷ []) 9 ∷
     []
 
 -- searches over 19, order 4
@@ -68,27 +96,57 @@ searches =
     requests 1 19 4 (1 ∷ 2 ∷ 3 ∷ 4 ∷ 5 ∷ 6 ∷ 7 ∷ 8 ∷ 9 ∷ 10 ∷ 11 ∷ 12 ∷ 13 ∷ 14 ∷ 15 ∷ []) (answer 0 ((0 ∷ 6 ∷ 18 ∷ 72 ∷ []) ∷ (1 ∷ 4 ∷ 9 ∷ 13 ∷ []) ∷ [])) ∷
     []
 
--- checks over 7: the identity of order 2, and order 1 with entry 0; the survey of degree 2
+-- checks over 7: the identity of order 2, order 1 with entry 0, and a matrix that is not its own transpose; the surveys of degrees 2 and 3
 unfoldable pub checks : List ReferenceLine
 checks =
     requests 2 7 2 (1 ∷ 0 ∷ 0 ∷ 1 ∷ []) (answer 0 ((0 ∷ 2 ∷ 0 ∷ 1 ∷ 4 ∷ []) ∷ [])) ∷
     requests 2 7 1 (0 ∷ []) (answer 0 ((0 ∷ 1 ∷ 0 ∷ 0 ∷ 0 ∷ []) ∷ [])) ∷
+    requests 2 7 2 (1 ∷ 1 ∷ 0 ∷ 0 ∷ []) (answer 0 ((0 ∷ 2 ∷ 0 ∷ 0 ∷ 4 ∷ []) ∷ [])) ∷
     requests 3 2 0 [] (answer 0 ((0 ∷ 1 ∷ []) ∷ (7 ∷ 2 ∷ 2 ∷ []) ∷ [])) ∷
+    surveys 3 ((0 ∷ 2 ∷ []) ∷ (11 ∷ 15 ∷ 47 ∷ []) ∷ (13 ∷ 15 ∷ 47 ∷ []) ∷ []) ∷
     []
 
--- the worked example: request text and answer text
+-- library calls over 19: the inverse of 0; determinants up to size 8; halved products of order 2, 4 or 8
+unfoldable pub refusals : List ReferenceLine
+refusals =
+    calls (inverseFaults 19 0) 8 ∷
+    calls (inverseFaults 19 15) 0 ∷
+    calls (inverseFaults 19 16) 7 ∷
+    calls (determinantFaults 19 8 (λ i j. 0)) 0 ∷
+    calls (determinantFaults 19 9 (λ i j. 0)) 5 ∷
+    calls (matrixFaults 19 0 (λ i j. 0)) 5 ∷
+    calls (halvedFaults 19 1 [] []) 5 ∷
+    calls (halvedFaults 19 2 [] []) 0 ∷
+    []
+
+-- the candidates 1, 2, .. n
+abbrev pub from-one : ℕ → List ℕ
+from-one n = tabulate n suc
+
+-- the limits: polynomials, here of checks of order 1 (7 is accepted above); counts of candidates
+unfoldable pub limits : List ReferenceLine
+limits =
+    requests 2 3 1 (0 ∷ []) (answer 3 []) ∷
+    requests 2 21 1 (0 ∷ []) (answer 4 []) ∷
+    requests 2 511 1 (0 ∷ []) (answer 4 []) ∷
+    requests 2 512 1 (0 ∷ []) (answer 3 []) ∷
+    not-given 1 37 8 (from-one 16) 6 ∷
+    requests 1 37 8 (from-one 17) (answer 6 []) ∷
+    requests 1 37 4 (replicate 256 1) (answer 6 []) ∷
+    []
+
+-- the worked example, request text and answer text; and a text of seventeen values, sixteen to a line, that is refused
 unfoldable pub example : List ReferenceLine
 example =
     requests 1 19 4 (1 ∷ 4 ∷ 9 ∷ 13 ∷ []) (answer 0 ((0 ∷ 6 ∷ 18 ∷ 72 ∷ []) ∷ (1 ∷ 4 ∷ 9 ∷ 13 ∷ []) ∷ [])) ∷
     texts
-    (32 ∷ 32 ∷ 32 ∷ 32 ∷ 32 ∷ 49 ∷ 32 ∷ 32 ∷ 32 ∷ 32 ∷ 49 ∷ 57 ∷ 32 ∷ 32 ∷ 32 ∷ 32 ∷ 32 ∷ 52 ∷ 32 ∷ 32 ∷ 32 ∷ 32 ∷ 32 ∷ 52 ∷ 10
-    ∷ 32 ∷ 32 ∷ 32 ∷ 32 ∷ 32 ∷ 49 ∷ 32 ∷ 32 ∷ 32 ∷ 32 ∷ 32 ∷ 52 ∷ 32 ∷ 32 ∷ 32 ∷ 32 ∷ 32 ∷ 57 ∷ 32 ∷ 32 ∷ 32 ∷ 32 ∷ 49 ∷ 51 ∷ 10
-    ∷ [])
-    (32 ∷ 32 ∷ 32 ∷ 32 ∷ 32 ∷ 48 ∷ 32 ∷ 32 ∷ 32 ∷ 32 ∷ 32 ∷ 54 ∷ 32 ∷ 32 ∷ 32 ∷ 32 ∷ 49 ∷ 56 ∷ 32 ∷ 32 ∷ 32 ∷ 32 ∷ 55 ∷ 50 ∷ 10
-    ∷ 32 ∷ 32 ∷ 32 ∷ 32 ∷ 32 ∷ 49 ∷ 32 ∷ 32 ∷ 32 ∷ 32 ∷ 32 ∷ 52 ∷ 32 ∷ 32 ∷ 32 ∷ 32 ∷ 32 ∷ 57 ∷ 32 ∷ 32 ∷ 32 ∷ 32 ∷ 49 ∷ 51 ∷ 10
-    ∷ []) ∷
+    ("     1    19     4     4" ∷ "     1     4     9    13" ∷ [])
+    ("     0     6    18    72" ∷ "     1     4     9    13" ∷ []) ∷
+    texts
+    ("     1    19     8    17" ∷ "     1     2     3     4     5     6     7     8     9    10    11    12    13    14    15    16" ∷ "    17" ∷ [])
+    ("     6" ∷ []) ∷
     []
 
 -- the table
 unfoldable pub referenceLines : List ReferenceLine
-referenceLines = elementLines ++ searches ++ checks ++ example
+referenceLines = elementLines ++ searches ++ checks ++ refusals ++ limits ++ example

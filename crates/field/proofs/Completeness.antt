@@ -1,19 +1,21 @@
 -- The table is complete: for 4 ≤ p ≤ 511, p stands in it exactly if it is irreducible; and it holds 1, 2, 3, 6, 9, 18, 30 polynomials by
--- degree. One computed test and one lemma. Assumes nothing.
+-- degree. One computed test and one lemma. The polynomials of a degree are listed one time each (`polynomials-different`), and are the
+-- irreducible ones of that degree (`polynomials-exactly`). Assumes nothing.
 use mathlib.Core.Path.{_≡_, refl, sym, ap, ap₂, _∙_, subst}
 use mathlib.Core.Bool.{Bool, true, false}
-use mathlib.Core.List.{List, [], _∷_, _++_, map}
-use mathlib.Core.Logic.{_⊎_, ⊎-elim}
+use mathlib.Core.List.{List, [], _∷_, _++_, map, List·Memᴰ, List·Memᴰ·head, List·Memᴰ·tail, List·Memᴰ·not-nil}
+use mathlib.Core.Logic.{_⊎_, ⊎-elim, _↔_}
 use Prim.Native.Nat.{ℕ, zero, suc, _+_, _-_, _^_, _≤_, _<_, suc-le-suc}
-use native.Mathlib.Nat.{zero-lt-suc, le-of-suc-le-suc, not-suc-le-zero, eq-or-lt-of-le, add-suc, suc-add, zero-add, le-refl}
+use native.Mathlib.Nat.{zero-lt-suc, le-of-suc-le-suc, not-suc-le-zero, eq-or-lt-of-le, add-suc, suc-add, zero-add, le-refl, pow-suc, eq-zero-or-pos}
 use native.Mathlib.Omega.{arith}
 use lib.Dec.{lit≤}
 use lib.Pow.{pow-pos, pow-mono}
 use lib.ListN.{length, getD, take, drop}
-use Rattle.field.specs.Polynomial.{_⊕_, digitsWithin, overDigits, reduce, rem, isIrreducible, someBelow}
+use Rattle.field.specs.Polynomial.{_⊕_, digitsWithin, overDigits, degree, reduce, rem, Irreducible, isIrreducible, someBelow}
 use Rattle.field.specs.Table.{keepIf, passing, polynomials, table}
 use Rattle.field.specs.Steps.{startOf}
-use Rattle.field.proofs.Irreducibility.{trial, trial-is}
+use Rattle.field.proofs.Degrees.{HasDegree, has-degree, degree-is, degree-small}
+use Rattle.field.proofs.Irreducibility.{trial, trial-is, irreducible-to, irreducible-from}
 
 -- ---- lists of the numbers that pass a test
 
@@ -45,6 +47,12 @@ unfolding Stands
 later k s true l r = (suc (r .0), suc-le-suc (r .1), r .2)
 later k s false l r = r
 
+stands-member : (k : ℕ) (l : List ℕ) → Stands k l → List·Memᴰ k l
+unfolding Stands
+stands-member k [] (i, h, e) = absurd (not-suc-le-zero h)
+stands-member k (a ∷ l) (zero, h, e) = List·Memᴰ·head (sym e)
+stands-member k (a ∷ l) (suc i, h, e) = List·Memᴰ·tail (stands-member k l (i, le-of-suc-le-suc h, e))
+
 passing-complete : (t : ℕ → Bool) (n s k : ℕ) → s ≤ k → k < s + n → t k ≡ true → Stands k (passing t n s)
 unfolding passing Stands
 passing-complete t zero s k l r e = let z : ⊥ = omega arith in absurd z
@@ -52,6 +60,48 @@ passing-complete t (suc n) s k l r e =
     ⊎-elim (λ (f : s ≡ k). subst (λ (b : Bool). Stands k (keepIf b s (passing t n (suc s)))) (sym (ap t f ∙ e)) (0, zero-lt-suc (length (passing t n (suc s))), f))
     (λ (h : s < k). later k s (t s) (passing t n (suc s)) (passing-complete t n (suc s) k h (omega arith) e))
     (eq-or-lt-of-le l)
+
+member-passing : (t : ℕ → Bool) {k : ℕ} (n s : ℕ) → List·Memᴰ k (passing t n s) → (s ≤ k) × (k < s + n) × (t k ≡ true)
+unfolding passing
+member-passing t zero s m = absurd (List·Memᴰ·not-nil m)
+member-passing t {k} (suc n) s m = at (member-passing t n (suc s)) (t s) refl m
+  where
+    at : (List·Memᴰ k (passing t n (suc s)) → (suc s ≤ k) × (k < suc s + n) × (t k ≡ true)) → (b : Bool) → t s ≡ b
+        → List·Memᴰ k (keepIf b s (passing t n (suc s))) → (s ≤ k) × (k < s + suc n) × (t k ≡ true)
+    at ih true e (List·Memᴰ·head q) = (omega arith, omega arith, ap t q ∙ e)
+    at ih true e (List·Memᴰ·tail m) = let r = ih m in (omega arith, omega arith, r .2)
+    at ih false e m = let r = ih m in (omega arith, omega arith, r .2)
+
+-- a list whose numbers rise strictly, the first of them `low` or more
+pub data Ascends : ℕ → List ℕ → Type 0 where
+  no-more : {low : ℕ} → Ascends low []
+  rise : {low k : ℕ} {l : List ℕ} → low ≤ k → Ascends (suc k) l → Ascends low (k ∷ l)
+
+passing-ascends : (t : ℕ → Bool) (n s : ℕ) → Ascends s (passing t n s)
+unfolding passing
+passing-ascends t zero s = no-more
+passing-ascends t (suc n) s = kept (t s) (passing-ascends t n (suc s))
+  where
+    lower : {low : ℕ} {l : List ℕ} → Ascends (suc low) l → Ascends low l
+    lower no-more = no-more
+    lower {low} (rise {k = k} h a) = let h′ : low ≤ k = omega arith in rise h′ a
+
+    kept : {l : List ℕ} (b : Bool) → Ascends (suc s) l → Ascends s (keepIf b s l)
+    kept true a = rise (le-refl s) a
+    kept false a = lower a
+
+-- a list in which no number stands twice
+pub data Different : List ℕ → Type 0 where
+  none : Different []
+  other : {k : ℕ} {l : List ℕ} → (List·Memᴰ k l → ⊥) → Different l → Different (k ∷ l)
+
+ascends-above : {low k : ℕ} {l : List ℕ} → Ascends low l → List·Memᴰ k l → low ≤ k
+ascends-above (rise h a) (List·Memᴰ·head e) = omega arith
+ascends-above (rise h a) (List·Memᴰ·tail m) = omega (arith, ascends-above a m)
+
+ascends-different : {low : ℕ} {l : List ℕ} → Ascends low l → Different l
+ascends-different no-more = none
+ascends-different (rise {k = k} {l = l} h a) = other (λ (m : List·Memᴰ k l). omega (arith, ascends-above a m)) (ascends-different a)
 
 passing-append : (t : ℕ → Bool) (n k s : ℕ) → passing t (n + k) s ≡ passing t n s ++ passing t k (n + s)
 unfolding passing
@@ -108,6 +158,33 @@ polynomials-part m l u =
     passing-cong isIrreducible trial (2 ^ m) (2 ^ m)
     (λ k a b. sym (trial-is k (omega (arith, pow-pos m)) (omega (arith, pow-mono {j = 8} u))))
     ∙ trial-part m l u
+
+-- each stands in the list one time
+pub polynomials-ascend : (m : ℕ) → Ascends (2 ^ m) (polynomials m)
+unfolding polynomials
+polynomials-ascend m = passing-ascends isIrreducible (2 ^ m) (2 ^ m)
+
+pub polynomials-different : (m : ℕ) → Different (polynomials m)
+polynomials-different m = ascends-different (polynomials-ascend m)
+
+-- the list holds the irreducible polynomials of the degree, and no other number
+pub polynomials-exactly : (m p : ℕ) → 0 < m → List·Memᴰ p (polynomials m) ↔ (Irreducible p × (degree p ≡ m))
+unfolding polynomials
+polynomials-exactly m p h = (to, λ (i, e). from i e)
+  where
+    to : List·Memᴰ p (passing isIrreducible (2 ^ m) (2 ^ m)) → Irreducible p × (degree p ≡ m)
+    to k =
+        let r = member-passing isIrreducible (2 ^ m) (2 ^ m) k in
+        (irreducible-to p (r .2), degree-is p m (record { low = r .0; high = omega (arith, pow-suc 2 m) }))
+
+    positive : degree p ≡ m → 0 < p
+    positive e =
+        ⊎-elim (λ (z : p ≡ 0). let y : ⊥ = omega (arith, degree-small p (omega arith)) in absurd y) (λ (q : 0 < p). q) (eq-zero-or-pos p)
+
+    from : Irreducible p → degree p ≡ m → List·Memᴰ p (passing isIrreducible (2 ^ m) (2 ^ m))
+    from i e =
+        let d : HasDegree p m = rw e at (has-degree p (positive e)) in
+        stands-member p _ (passing-complete isIrreducible (2 ^ m) (2 ^ m) p (d .low) (omega (arith, pow-suc 2 m)) (irreducible-from p i))
 
 -- 1, 2, 3, 6, 9, 18, 30 by degree
 pub polynomials-count : (m : ℕ) → 2 ≤ m → m ≤ 8 → length (polynomials m) ≡ getD (1 ∷ 2 ∷ 3 ∷ 6 ∷ 9 ∷ 18 ∷ 30 ∷ []) (m - 2) 0

@@ -8,3 +8,4 @@ pub mod Inverses
 pub mod Irreducibility
 pub mod Completeness
 pub mod Calls
+pub mod Limits

@@ -5,9 +5,9 @@ ghost use mathlib.Core.Path.{_≡_};
 ghost use mathlib.Core.Bool.{_||_};
 ghost use Prim.Native.Nat.{_*_, _^_, _≤_, _<_};
 ghost use lib.Dec.{eqb};
-ghost use mathlib.Core.List.{[], _∷_, _++_};
+ghost use mathlib.Core.List.{[], _∷_};
 ghost use Rattle.refusal.specs.Refusals.{fault, answerAfter, answerOf};
-ghost use Rattle.field.specs.Faults.{isTooLarge, polynomialFaults};
+ghost use Rattle.field.specs.Faults.{isTooLarge, polynomialFaults, productFaults, inverseFaults, countFaults};
 ghost use Rattle.field.specs.Polynomial.{Modulus, degree, isIrreducible, reduce, rem, product, inverse, xorCount};
 use refusal::Outcome;
 use refusal::Refusal;
@@ -205,7 +205,7 @@ pub fn too_large(p: u16, a: u32) -> bool
 
 // The product of two elements of the field.
 pub fn checked_product(p: u32, a: u32, b: u32) -> Outcome
-    ensures { λ r. ⌜ answerOf r ≡ answerAfter 0 (polynomialFaults p ++ fault 7 (isTooLarge p a || isTooLarge p b) ∷ []) (product p a b) ⌝ }
+    ensures { λ r. ⌜ answerOf r ≡ answerAfter 0 (productFaults p a b) (product p a b) ⌝ }
 {
     match checked_degree(p) {
         Outcome::Refused(r) => Outcome::Refused(r),
@@ -228,7 +228,7 @@ fn product_over(p: u16, a: u32, b: u32) -> Outcome
 
 // The inverse of a nonzero element.
 pub fn checked_inverse(p: u32, a: u32) -> Outcome
-    ensures { λ r. ⌜ answerOf r ≡ answerAfter 0 (polynomialFaults p ++ fault 7 (isTooLarge p a) ∷ fault 8 (eqb a 0) ∷ []) (inverse p a) ⌝ }
+    ensures { λ r. ⌜ answerOf r ≡ answerAfter 0 (inverseFaults p a) (inverse p a) ⌝ }
 {
     match checked_degree(p) {
         Outcome::Refused(r) => Outcome::Refused(r),
@@ -251,7 +251,7 @@ fn inverse_over(p: u16, a: u32) -> Outcome
 
 // The XOR count of an element.
 pub fn checked_xor_count(p: u32, a: u32) -> Outcome
-    ensures { λ r. ⌜ answerOf r ≡ answerAfter 0 (polynomialFaults p ++ fault 7 (isTooLarge p a) ∷ []) (xorCount p a) ⌝ }
+    ensures { λ r. ⌜ answerOf r ≡ answerAfter 0 (countFaults p a) (xorCount p a) ⌝ }
 {
     match checked_degree(p) {
         Outcome::Refused(r) => Outcome::Refused(r),

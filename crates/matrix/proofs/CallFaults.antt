@@ -1,7 +1,7 @@
 -- The faults of the calls on matrices: what passes, and an outcome that is matched. Assumes nothing.
 use mathlib.Core.Path.{_≡_, refl, sym, ap, ap₂, _∙_}
-use mathlib.Core.Bool.{Bool, true, false, _||_, or-true, or-false}
-use mathlib.Core.List.{List, []}
+use mathlib.Core.Bool.{Bool, true, false, _||_, or-true, or-false, true≢false}
+use mathlib.Core.List.{List}
 use mathlib.Core.Logic.{_⊎_, ⊎-elim, inl, inr}
 use Prim.Native.Nat.{ℕ, zero, suc, _+_, _≤_, _<_, _^_}
 use native.Mathlib.Nat.{not-suc-le-zero, le-of-suc-le-suc, eq-or-lt-of-le}
@@ -17,10 +17,10 @@ use Rattle.refusal.specs.declared.Refusal.{Refusal}
 use Rattle.refusal.specs.Refusals.{numberOf, Fault, firstNumber, Answer, answer, answerAfter, answerOf}
 use Rattle.refusal.proofs.Faults.{number-not-zero, first-passed, after-none, after-number, outcome-passed, outcome-number}
 use Rattle.field.specs.Polynomial.{Modulus, degree, someBelow}
-use Rattle.field.specs.Faults.{isTooLarge}
+use Rattle.field.specs.Faults.{isTooLarge, callFaults}
 use Rattle.field.proofs.Calls.{not-too-large, modulus-parts}
 use Rattle.matrix.specs.Numbers.{entry, InField, WordsInField, HalvingOrder}
-use Rattle.matrix.specs.Answers.{isWrongOrder, isWrongHalvedOrder, someWordTooLarge, someEntryTooLarge, valueFaults, matrixFaults}
+use Rattle.matrix.specs.Answers.{isWrongOrder, isWrongHalvedOrder, someWordTooLarge, someEntryTooLarge, matrixFaults}
 use Rattle.matrix.specs.Steps.Calls.{someValueTooLarge}
 
 -- ---- some number below n passes a test
@@ -59,19 +59,18 @@ order-passes n e =
 
 pub halved-order-passes : (n : ℕ) → isWrongHalvedOrder n ≡ false → HalvingOrder n
 unfolding isWrongHalvedOrder
-halved-order-passes n e = from (eqb n 1) (eqb n 2) (eqb n 4) (eqb n 8) refl refl refl refl (not-false _ e)
+halved-order-passes n e = from (eqb n 2) (eqb n 4) (eqb n 8) refl refl refl (not-false _ e)
   where
-    from : (a b c d : Bool) → eqb n 1 ≡ a → eqb n 2 ≡ b → eqb n 4 ≡ c → eqb n 8 ≡ d → (a || b || c || d) ≡ true → HalvingOrder n
-    from true b c d e1 e2 e4 e8 h = inl (eqb-true n 1 e1)
-    from false true c d e1 e2 e4 e8 h = inr (inl (eqb-true n 2 e2))
-    from false false true d e1 e2 e4 e8 h = inr (inr (inl (eqb-true n 4 e4)))
-    from false false false true e1 e2 e4 e8 h = inr (inr (inr (eqb-true n 8 e8)))
-    from false false false false e1 e2 e4 e8 h = let z : _≡_ {A = ℕ} 0 1 = cc in let y : ⊥ = omega arith in absurd y
+    from : (b c d : Bool) → eqb n 2 ≡ b → eqb n 4 ≡ c → eqb n 8 ≡ d → (b || c || d) ≡ true → HalvingOrder n
+    from true c d e2 e4 e8 h = inr (inl (eqb-true n 2 e2))
+    from false true d e2 e4 e8 h = inr (inr (inl (eqb-true n 4 e4)))
+    from false false true e2 e4 e8 h = inr (inr (inr (eqb-true n 8 e8)))
+    from false false false e2 e4 e8 h = absurd (true≢false (sym h))
 
 -- an order above 8 is none of them
 halving-wrong : (n : ℕ) → 8 < n → isWrongHalvedOrder n ≡ true
 unfolding isWrongHalvedOrder
-halving-wrong n l = rw (ne-eqb n 1 (λ e. omega arith), ne-eqb n 2 (λ e. omega arith), ne-eqb n 4 (λ e. omega arith), ne-eqb n 8 (λ e. omega arith))
+halving-wrong n l = rw (ne-eqb n 2 (λ e. omega arith), ne-eqb n 4 (λ e. omega arith), ne-eqb n 8 (λ e. omega arith))
 
 pub halving-most : (n : ℕ) → (isWrongHalvedOrder n || ltb 8 n) ≡ isWrongHalvedOrder n
 halving-most n = at (ltb 8 n) refl
@@ -111,12 +110,12 @@ pub record Accepted (p : ℕ) (wrong large : Bool) : Type 0 where
   pub order : wrong ≡ false
   pub values : large ≡ false
 
-none-applies : (p : ℕ) (wrong large : Bool) → firstNumber (valueFaults p wrong large) ≡ 0 → Accepted p wrong large
-unfolding valueFaults
+none-applies : (p : ℕ) (wrong large : Bool) → firstNumber (callFaults p wrong false large false) ≡ 0 → Accepted p wrong large
 none-applies p wrong large e =
     let (modulus, behind) = modulus-parts p _ e in
     let (order, rest) = first-passed 5 0 wrong _ (λ h. omega arith) behind in
-    record { modulus = modulus; order = order; values = first-passed 7 0 large [] (λ h. omega arith) rest .0 }
+    let (count, last) = first-passed 6 0 false _ (λ h. omega arith) rest in
+    record { modulus = modulus; order = order; values = first-passed 7 0 large _ (λ h. omega arith) last .0 }
 
 module _ (o : Outcome) (l : List Fault) (e : answerOf o ≡ answerAfter 0 l 0) where
   -- the call is refused so
@@ -129,15 +128,15 @@ module _ (o : Outcome) (l : List Fault) (e : answerOf o ≡ answerAfter 0 l 0) w
 
 -- what an outcome tells of a polynomial, an order and values
 abbrev pub Outcome-after : Outcome → ℕ → Bool → Bool → Type 0
-Outcome-after o p wrong large = answerOf o ≡ answerAfter 0 (valueFaults p wrong large) 0
+Outcome-after o p wrong large = answerOf o ≡ answerAfter 0 (callFaults p wrong false large false) 0
 
 -- the order and the values are looked at as they are defined
-pub same-faults : (p : ℕ) {a : Answer ℕ} (wrong large wrong' large' : Bool) → a ≡ answerAfter 0 (valueFaults p wrong large) 0 → wrong ≡ wrong' → large ≡ large'
-    → a ≡ answerAfter 0 (valueFaults p wrong' large') 0
-same-faults p wrong large wrong' large' e d f = e ∙ ap₂ (λ (w l : Bool). answerAfter 0 (valueFaults p w l) 0) d f
+pub same-faults : (p : ℕ) {a : Answer ℕ} (wrong large wrong' large' : Bool) → a ≡ answerAfter 0 (callFaults p wrong false large false) 0 → wrong ≡ wrong' → large ≡ large'
+    → a ≡ answerAfter 0 (callFaults p wrong' false large' false) 0
+same-faults p wrong large wrong' large' e d f = e ∙ ap₂ (λ (w l : Bool). answerAfter 0 (callFaults p w false l false) 0) d f
 
 pub accepted : (o : Outcome) (p : ℕ) (wrong large : Bool) (v : ℕ) → Outcome-after o p wrong large → o ≡ Value v → Accepted p wrong large
-accepted o p wrong large v e d = none-applies p wrong large (outcome-passed o (valueFaults p wrong large) 0 e v d)
+accepted o p wrong large v e d = none-applies p wrong large (outcome-passed o (callFaults p wrong false large false) 0 e v d)
 
 -- what the calls on a matrix that is accepted require
 pub record Sound (p n : ℕ) (m : List (List ℕ)) : Type 0 where

@@ -14,3 +14,4 @@ pub mod Elimination
 pub mod Trials
 pub mod Least
 pub mod Units
+pub mod Limits

@@ -1,10 +1,10 @@
--- Hadamard matrices over the numbers below 2^m: involution, MDS, moved rows.
--- Assumes nothing.
+-- Hadamard matrices over the numbers below 2^m: involution, MDS, and rows with their places moved: an affine change of the places keeps
+-- branch number, involution and counts (`affine-row`). Assumes nothing.
 use mathlib.Core.Path.{_≡_, sym, ap, _∙_}
 use mathlib.Core.Bool.{true, false}
 use mathlib.Core.List.{List}
 use mathlib.Core.Logic.{_≢_}
-use Prim.Native.Nat.{ℕ, _-_, _^_, _≤_, _<_}
+use Prim.Native.Nat.{ℕ, _-_, _*_, _^_, _≤_, _<_}
 use lib.Bits.{bitXor, xor-lt}
 use lib.Dec.{eqb}
 use lib.ListN.{getD}
@@ -12,14 +12,16 @@ use borrow.Author.Tests.{eqb-true, eq-eqb}
 use Rattle.algebra.specs.Operations.{Operations}
 use Rattle.algebra.proofs.FieldLaws.{Field}
 use Rattle.algebra.specs.Matrix.{tabulate, sum, hadamard, branchNumber, isMds, isInvolution}
+use Rattle.algebra.specs.Places.{moved, Affine}
 use Rattle.algebra.proofs.Words.{getD-tabulate, tabulate-cong}
-use Rattle.algebra.proofs.Sums.{Inverse}
 use Rattle.algebra.proofs.Hadamard.{involution-sum, sum-involution, null-not-mds, equal-not-mds}
-use Rattle.algebra.proofs.Symmetry.{same-bool, moved, branch-row, mds-row, involution-row}
+use Rattle.algebra.proofs.Symmetry.{same-bool, branch-row, mds-row, involution-row}
 use Rattle.algebra.proofs.Bridge.{sum-bridge}
 use Rattle.field.specs.Polynomial.{Modulus}
 use Rattle.matrix.specs.Numbers.{numbers, elements, WordsInField}
+use Rattle.matrix.specs.Counts.{rowCount, matrixCount}
 use Rattle.matrix.specs.Steps.Regular.{regularUpTo}
+use Rattle.matrix.proofs.Tallies.{count-moved, hadamard-count}
 use Rattle.matrix.proofs.Squares as Squares
 use Rattle.matrix.proofs.Residues.{Residue, number, lift, lift-number, same-number, residueList as all, residues-complete as complete, residues, number-keeps, residues-field}
 use Rattle.matrix.proofs.Residues.{branch-carried, mds-carried, involution-carried, regular-carried}
@@ -92,12 +94,11 @@ module _ (p : ℕ) (h : Modulus p) (k : ℕ) where
 
   -- ---- the row with its places moved
 
-  module _ (row : List ℕ) (below : WordsInField p (2 ^ k) row) (σ ρ : ℕ → ℕ) (v : Inverse (2 ^ k) σ ρ)
-      (affine : (i j : ℕ) → i < 2 ^ k → j < 2 ^ k → σ (bitXor i j) ≡ bitXor (bitXor (σ i) (σ j)) (σ 0)) where
+  module _ (row : List ℕ) (below : WordsInField p (2 ^ k) row) (σ ρ : ℕ → ℕ) (a : Affine k σ ρ) where
     -- the moved entries are elements
     pub moved-below : WordsInField p (2 ^ k) (moved (numbers p) (2 ^ k) σ row)
     unfolding WordsInField
-    moved-below i l = rw (getD-tabulate (2 ^ k) (λ i. getD row (σ i) 0) i 0 l) (below (σ i) (v .there i l))
+    moved-below i l = rw (getD-tabulate (2 ^ k) (λ i. getD row (σ i) 0) i 0 l) (below (σ i) (a .inverse .there i l))
 
     -- as elements they are the elements moved
     lifted-moved : lifted p (2 ^ k) (moved (numbers p) (2 ^ k) σ row) ≡ moved R (2 ^ k) σ (lifted p (2 ^ k) row)
@@ -105,7 +106,7 @@ module _ (p : ℕ) (h : Modulus p) (k : ℕ) where
     lifted-moved =
         tabulate-cong (2 ^ k) _ _ (λ i l.
         ap (lift p) (getD-tabulate (2 ^ k) (λ i. getD row (σ i) 0) i 0 l)
-        ∙ sym (getD-tabulate (2 ^ k) (λ i. lift p (getD row i 0)) (σ i) (R .null) (v .there i l)))
+        ∙ sym (getD-tabulate (2 ^ k) (λ i. lift p (getD row i 0)) (σ i) (R .null) (a .inverse .there i l)))
 
     moved-entries : (i j : ℕ) → i < 2 ^ k → j < 2 ^ k
         → hadamard R (moved R (2 ^ k) σ (lifted p (2 ^ k) row)) i j .0 ≡ hadamard (numbers p) (moved (numbers p) (2 ^ k) σ row) i j
@@ -116,7 +117,7 @@ module _ (p : ℕ) (h : Modulus p) (k : ℕ) where
         ≡ branchNumber (numbers p) (elements p) (2 ^ k) (hadamard (numbers p) row)
     moved-row-branch =
         branch-carried p h (2 ^ k) _ _ moved-entries
-        ∙ branch-row R L k _ σ ρ v affine (all p) (complete p)
+        ∙ branch-row R L k _ σ ρ a (all p) (complete p)
         ∙ sym (branch-carried p h (2 ^ k) _ _ (entries row below))
 
     -- the answer to MDS stays
@@ -124,7 +125,7 @@ module _ (p : ℕ) (h : Modulus p) (k : ℕ) where
         ≡ isMds (numbers p) (elements p) (2 ^ k) (hadamard (numbers p) row)
     moved-row-mds =
         mds-carried p h (2 ^ k) _ _ moved-entries
-        ∙ mds-row R L k _ σ ρ v affine (all p) (complete p)
+        ∙ mds-row R L k _ σ ρ a (all p) (complete p)
         ∙ sym (mds-carried p h (2 ^ k) _ _ (entries row below))
 
     -- an involution's row stays one
@@ -132,5 +133,19 @@ module _ (p : ℕ) (h : Modulus p) (k : ℕ) where
         ≡ isInvolution (numbers p) (elements p) (2 ^ k) (hadamard (numbers p) row)
     moved-row-involution =
         involution-carried p h (2 ^ k) _ _ moved-entries
-        ∙ involution-row R L k _ σ ρ v affine (all p) (complete p)
+        ∙ involution-row R L k _ σ ρ a (all p) (complete p)
         ∙ sym (involution-carried p h (2 ^ k) _ _ (entries row below))
+
+    -- the matrix's count stays, since the row's does
+    pub moved-matrix-count : matrixCount p (2 ^ k) (hadamard (numbers p) (moved (numbers p) (2 ^ k) σ row)) ≡ matrixCount p (2 ^ k) (hadamard (numbers p) row)
+    moved-matrix-count =
+        hadamard-count p k (moved (numbers p) (2 ^ k) σ row) ∙ ap (λ (c : ℕ). 2 ^ k * c) (count-moved p (2 ^ k) σ ρ (a .inverse) row) ∙ sym (hadamard-count p k row)
+
+    -- an affine change of the places keeps branch number, involution, row count and matrix count
+    pub affine-row : (branchNumber (numbers p) (elements p) (2 ^ k) (hadamard (numbers p) (moved (numbers p) (2 ^ k) σ row))
+        ≡ branchNumber (numbers p) (elements p) (2 ^ k) (hadamard (numbers p) row))
+        × (isInvolution (numbers p) (elements p) (2 ^ k) (hadamard (numbers p) (moved (numbers p) (2 ^ k) σ row))
+        ≡ isInvolution (numbers p) (elements p) (2 ^ k) (hadamard (numbers p) row))
+        × (rowCount p (2 ^ k) (λ j. getD (moved (numbers p) (2 ^ k) σ row) j 0) ≡ rowCount p (2 ^ k) (λ j. getD row j 0))
+        × (matrixCount p (2 ^ k) (hadamard (numbers p) (moved (numbers p) (2 ^ k) σ row)) ≡ matrixCount p (2 ^ k) (hadamard (numbers p) row))
+    affine-row = (moved-row-branch, moved-row-involution, count-moved p (2 ^ k) σ ρ (a .inverse) row, moved-matrix-count)

@@ -1,10 +1,11 @@
--- MDS by square blocks, over any field: all of them, and for a Hadamard involution those up to half the order with column 0.
+-- MDS by square blocks, over any field: all of them; for an involution those up to half the order, and for a Hadamard involution of these
+-- only those with column 0.
 -- Assumes nothing.
 use mathlib.Core.Path.{_≡_, refl, sym, ap, ap₂, _∙_}
 use mathlib.Core.Bool.{Bool, true, false, not, _&&_, _||_, false≢true, true≢false}
 use mathlib.Core.List.{List, [], _∷_, List·Memᴰ}
 use mathlib.Core.Logic.{⊎-elim}
-use Prim.Native.Nat.{ℕ, zero, suc, _+_, _-_, _%_, _^_, _≤_, _<_, suc-le-suc}
+use Prim.Native.Nat.{ℕ, zero, suc, _+_, _-_, _/_, _%_, _^_, _≤_, _<_, suc-le-suc}
 use native.Mathlib.Nat.{pow-suc, not-suc-le-zero, le-of-suc-le-suc, zero-lt-suc, le-refl, le-suc, le-trans, eq-or-lt-of-le}
 use native.Mathlib.Omega.{arith}
 use lib.Bits.{bitXor, xor-zero-l}
@@ -14,15 +15,15 @@ use lib.Pow.{pow-pos}
 use borrow.Author.Tests.{eqb-true, eq-eqb}
 use Rattle.algebra.specs.Operations.{Operations}
 use Rattle.algebra.proofs.FieldLaws.{Field}
-use Rattle.algebra.specs.Matrix.{sum, hadamard, det, weight, activity, isMds, block, chosen}
-use Rattle.algebra.proofs.Words.{oneUnless}
-use Rattle.algebra.proofs.Words.{length-tabulate, getD-tabulate}
+use Rattle.algebra.specs.Matrix.{sum, hadamard, det, weight, activity, isMds, isInvolution, block, chosen}
+use Rattle.algebra.specs.Places.{moved}
+use Rattle.algebra.proofs.Words.{oneUnless, length-tabulate, getD-tabulate}
 use Rattle.algebra.proofs.Sums.{le-or-lt}
 use Rattle.algebra.proofs.Weights.{weight-le}
 use Rattle.algebra.proofs.Branch.{mds-activity, activity-mds}
 use Rattle.algebra.proofs.Involution.{and-left, and-right, half-suffices}
 use Rattle.algebra.proofs.Hadamard.{sum-involution}
-use Rattle.algebra.proofs.Symmetry.{same-bool, moved, translate}
+use Rattle.algebra.proofs.Symmetry.{same-bool, translate}
 use Rattle.algebra.proofs.Choices.{supportMask, support-first, chosen-lt}
 use Rattle.algebra.proofs.Blocks.{singular-light, light-block}
 use Rattle.algebra.proofs.Bridge.{Homomorphism, det-bridge}
@@ -166,13 +167,38 @@ module _ (K : Operations) (L : Field K) (elements : List (K .Element)) (complete
     pub mds-is-regular : 0 < n → isMds K elements n f ≡ regularUpTo K n f 1 n
     mds-is-regular h = same-bool _ _ (λ m. mds-regular m 1 n) (regular-mds h)
 
+    -- ---- involutions
+
+    -- some input with as many nonzero words, in and out, has its nonzero words in a choice of columns that is looked at
+    abbrev LookedAt : ℕ → List (K .Element) → Type 0
+    LookedAt step x =
+        (y : List (K .Element)) × (length y ≡ n) × (weight K y ≡ weight K x) × (activity K n f y ≡ activity K n f x) × (supportMask K y % step ≡ 1 % step)
+
+    -- of an involution blocks up to half the order suffice, where every input that is not zero has such an input
+    half-mds : 0 < n → isInvolution K elements n f ≡ true → (step most : ℕ) → n ≤ suc (most + most)
+        → ((x : List (K .Element)) → length x ≡ n → 0 < weight K x → LookedAt step x)
+        → regularUpTo K n f step most ≡ true → isMds K elements n f ≡ true
+    half-mds h i step most half looked t =
+        activity-mds K L elements complete n f h
+        (half-suffices K L elements complete n f i (λ x e w l.
+        ⊎-elim (λ g. absurd (clash x e w l g)) (λ g. g) (le-or-lt (activity K n f x) n)))
+      where
+        clash : (x : List (K .Element)) → length x ≡ n → 0 < weight K x → weight K x + weight K x ≤ n → activity K n f x ≤ n → ⊥
+        clash x e w l g =
+            let y = looked x e w in
+            light-singular (y .0) (y .1) (omega (arith, y .2)) (omega (arith, y .3)) step most (omega (arith, y .2)) (y .4) t
+
+    -- an involution is MDS exactly if its square blocks up to half the order are regular; at order 1 there is none, and it is MDS
+    pub involution-half : 0 < n → isInvolution K elements n f ≡ true → isMds K elements n f ≡ regularUpTo K n f 1 (n / 2)
+    involution-half h i =
+        same-bool _ _ (λ m. mds-regular m 1 (n / 2))
+        (half-mds h i 1 (n / 2) (omega arith) (λ x e w. (x, e, refl, refl, omega arith)))
+
   -- ---- Hadamard involutions
 
   module _ (k : ℕ) (row : List (K .Element)) where
     -- an input with as many nonzero words, in and out, whose word 0 is not zero
-    front : (x : List (K .Element)) → length x ≡ 2 ^ k → 0 < weight K x
-        → (y : List (K .Element)) × (length y ≡ 2 ^ k) × (weight K y ≡ weight K x)
-        × (activity K (2 ^ k) (hadamard K row) y ≡ activity K (2 ^ k) (hadamard K row) x) × (supportMask K y % 2 ≡ 1)
+    front : (x : List (K .Element)) → length x ≡ 2 ^ k → 0 < weight K x → LookedAt (2 ^ k) (hadamard K row) 2 x
     unfolding activity
     front x e h =
         let n : ℕ = 2 ^ k in
@@ -190,27 +216,14 @@ module _ (K : Operations) (L : Field K) (elements : List (K .Element)) (complete
         )
 
     -- of a Hadamard involution the blocks up to half the order with column 0 suffice
-    pub half-mds : 1 ≤ k → sum K (2 ^ k) (λ i. getD row i (K .null)) ≡ K .one
-        → regularUpTo K (2 ^ k) (hadamard K row) 2 (2 ^ (k - 1)) ≡ true → isMds K elements (2 ^ k) (hadamard K row) ≡ true
-    half-mds h one t =
-        activity-mds K L elements complete (2 ^ k) (hadamard K row) (pow-pos k)
-        (half-suffices K L elements complete (2 ^ k) (hadamard K row) (sum-involution K L k row elements complete one) (λ x e w l.
-        ⊎-elim (λ g. absurd (clash x e w l g)) (λ g. g) (le-or-lt (activity K (2 ^ k) (hadamard K row) x) (2 ^ k))))
+    pub half-is-enough : 1 ≤ k → sum K (2 ^ k) (λ i. getD row i (K .null)) ≡ K .one
+        → isMds K elements (2 ^ k) (hadamard K row) ≡ regularUpTo K (2 ^ k) (hadamard K row) 2 (2 ^ (k - 1))
+    half-is-enough h one =
+        same-bool _ _ (λ m. mds-regular (2 ^ k) (hadamard K row) m 2 (2 ^ (k - 1)))
+        (half-mds (2 ^ k) (hadamard K row) (pow-pos k) (sum-involution K L k row elements complete one) 2 (2 ^ (k - 1)) (omega (arith, double)) front)
       where
         double : 2 ^ k ≡ 2 ^ (k - 1) + 2 ^ (k - 1)
         double = let s : k ≡ suc (k - 1) = omega arith in omega (arith, ap (λ (i : ℕ). 2 ^ i) s, pow-suc 2 (k - 1))
-
-        clash : (x : List (K .Element)) → length x ≡ 2 ^ k → 0 < weight K x → weight K x + weight K x ≤ 2 ^ k
-            → activity K (2 ^ k) (hadamard K row) x ≤ 2 ^ k → ⊥
-        clash x e w l g =
-            let y = front x e w in
-            light-singular (2 ^ k) (hadamard K row) (y .0) (y .1) (omega (arith, y .2)) (omega (arith, y .3)) 2 (2 ^ (k - 1))
-            (omega (arith, y .2, double)) (y .4) t
-
-    -- as one equation
-    pub half-is-enough : 1 ≤ k → sum K (2 ^ k) (λ i. getD row i (K .null)) ≡ K .one
-        → isMds K elements (2 ^ k) (hadamard K row) ≡ regularUpTo K (2 ^ k) (hadamard K row) 2 (2 ^ (k - 1))
-    half-is-enough h one = same-bool _ _ (λ m. mds-regular (2 ^ k) (hadamard K row) m 2 (2 ^ (k - 1))) (half-mds h one)
 
 -- ---- a map that keeps the operations keeps the tests
 

@@ -1,12 +1,22 @@
--- The XOR counts are small, and are counted one element and one line at a time. Assumes nothing.
+-- The XOR counts: they are small, are counted one element and one line at a time, and do not depend on the places of a row's elements
+-- (`count-moved`); so every line of a Hadamard matrix counts as much as its row (`hadamard-count`). Assumes nothing.
 use mathlib.Core.Path.{_≡_, refl, sym, ap, ap₂, _∙_}
-use Prim.Native.Nat.{ℕ, zero, suc, _+_, _-_, _*_, _≤_, _<_}
+use mathlib.Core.List.{List}
+use Prim.Native.Nat.{ℕ, zero, suc, _+_, _-_, _*_, _^_, _≤_, _<_}
 use native.Mathlib.Nat.{le-refl, mul-suc, mul-le-mul, suc-mul, zero-mul, mul-assoc}
 use native.Mathlib.Numerals.{add-one}
 use native.Mathlib.Omega.{arith}
+use lib.Bits.{bitXor, xor-comm}
+use lib.ListN.{getD}
+use Rattle.algebra.specs.Matrix.{sum, hadamard}
+use Rattle.algebra.specs.Places.{moved, Inverse}
+use Rattle.algebra.proofs.Words.{getD-tabulate}
+use Rattle.algebra.proofs.Sums.{Naturals, naturals, sum-permuted}
+use Rattle.algebra.proofs.Xor.{xor-own}
 use Rattle.field.specs.Polynomial.{Modulus, degree, xorCount}
 use Rattle.field.proofs.Degrees.{polynomial}
 use Rattle.field.proofs.Inverses.{columns-most}
+use Rattle.matrix.specs.Numbers.{numbers}
 use Rattle.matrix.specs.Counts.{total, elementCount, rowCount, matrixCount}
 
 -- an element counts at most 56: 8 columns of 8 ones, less 8
@@ -67,3 +77,64 @@ unfolding rowCount matrixCount
 total-rows p n f =
     total-more n ((n - 1) * degree p) (λ i. elementCount p n (f i))
     ∙ ap (λ (k : ℕ). total n (λ i. elementCount p n (f i)) + k) (sym (mul-assoc n (n - 1) (degree p)))
+
+-- ---- the places of a row's elements
+
+total-sum : (n : ℕ) (f : ℕ → ℕ) → total n f ≡ sum Naturals n f
+unfolding total sum
+total-sum zero f = refl
+total-sum (suc n) f = ap (λ (s : ℕ). s + f n) (total-sum n f)
+
+-- counts of rows that agree below n
+pub elementCount-cong : (p n : ℕ) (row row′ : ℕ → ℕ) → ((j : ℕ) → j < n → row j ≡ row′ j) → elementCount p n row ≡ elementCount p n row′
+unfolding elementCount
+elementCount-cong p n row row′ e = total-cong n _ _ (λ j l. ap (xorCount p) (e j l))
+
+pub rowCount-cong : (p n : ℕ) (row row′ : ℕ → ℕ) → ((j : ℕ) → j < n → row j ≡ row′ j) → rowCount p n row ≡ rowCount p n row′
+unfolding rowCount
+rowCount-cong p n row row′ e = ap (λ (s : ℕ). s + (n - 1) * degree p) (elementCount-cong p n row row′ e)
+
+module _ (p n : ℕ) (σ ρ : ℕ → ℕ) (v : Inverse n σ ρ) where
+  -- a row counts the same with its elements in another order
+  pub elementCount-permuted : (row : ℕ → ℕ) → elementCount p n (λ j. row (σ j)) ≡ elementCount p n row
+  unfolding elementCount
+  elementCount-permuted row =
+      total-sum n _ ∙ sum-permuted Naturals naturals n σ ρ v (λ j. xorCount p (row j)) ∙ sym (total-sum n (λ j. xorCount p (row j)))
+
+  pub rowCount-permuted : (row : ℕ → ℕ) → rowCount p n (λ j. row (σ j)) ≡ rowCount p n row
+  unfolding rowCount
+  rowCount-permuted row = ap (λ (s : ℕ). s + (n - 1) * degree p) (elementCount-permuted row)
+
+  module _ (row : List ℕ) where
+    moved-at : (j : ℕ) → j < n → getD (moved (numbers p) n σ row) j 0 ≡ getD row (σ j) 0
+    moved-at j l = getD-tabulate n (λ i. getD row (σ i) 0) j 0 l
+
+    -- the same of a list
+    pub elementCount-moved : elementCount p n (λ j. getD (moved (numbers p) n σ row) j 0) ≡ elementCount p n (λ j. getD row j 0)
+    elementCount-moved = elementCount-cong p n _ _ moved-at ∙ elementCount-permuted (λ j. getD row j 0)
+
+    pub count-moved : rowCount p n (λ j. getD (moved (numbers p) n σ row) j 0) ≡ rowCount p n (λ j. getD row j 0)
+    count-moved = rowCount-cong p n _ _ moved-at ∙ rowCount-permuted (λ j. getD row j 0)
+
+-- ---- Hadamard matrices
+
+total-same : (n c : ℕ) → total n (λ i. c) ≡ n * c
+unfolding total
+total-same zero c = sym (zero-mul c)
+total-same (suc n) c = omega (arith, total-same n c, suc-mul n c)
+
+-- a matrix whose lines count c each counts n·c
+pub equal-lines : (p n c : ℕ) (f : ℕ → ℕ → ℕ) → ((i : ℕ) → i < n → rowCount p n (f i) ≡ c) → matrixCount p n f ≡ n * c
+equal-lines p n c f e = sym (total-rows p n f) ∙ total-cong n _ (λ i. c) e ∙ total-same n c
+
+module _ (p k : ℕ) (row : List ℕ) where
+  -- a line has the row's elements, with their places moved by exclusive or with the line's number
+  pub hadamard-line : (i : ℕ) → i < 2 ^ k → rowCount p (2 ^ k) (hadamard (numbers p) row i) ≡ rowCount p (2 ^ k) (λ j. getD row j 0)
+  unfolding hadamard
+  hadamard-line i l =
+      rowCount-cong p (2 ^ k) _ (λ j. getD row (bitXor j i) 0) (λ j m. ap (λ (c : ℕ). getD row c 0) (xor-comm i j))
+      ∙ rowCount-permuted p (2 ^ k) _ _ (xor-own k i l) (λ j. getD row j 0)
+
+  -- the Hadamard matrix counts n times what its row counts
+  pub hadamard-count : matrixCount p (2 ^ k) (hadamard (numbers p) row) ≡ 2 ^ k * rowCount p (2 ^ k) (λ j. getD row j 0)
+  hadamard-count = equal-lines p (2 ^ k) (rowCount p (2 ^ k) (λ j. getD row j 0)) (hadamard (numbers p) row) hadamard-line

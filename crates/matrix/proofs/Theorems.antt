@@ -4,7 +4,7 @@
 use mathlib.Core.Path.{_≡_, refl, sym, ap, ap₂, _∙_}
 use mathlib.Core.Bool.{Bool, true, false, cond}
 use mathlib.Core.List.{List, map}
-use Prim.Native.Nat.{ℕ, zero, suc, _+_, _-_, _^_, _≤_, _<_}
+use Prim.Native.Nat.{ℕ, zero, suc, _+_, _-_, _/_, _^_, _≤_, _<_}
 use native.Mathlib.Nat.{le-refl, le-suc, le-trans}
 use native.Mathlib.Omega.{arith}
 use lib.Dec.{eqb}
@@ -199,6 +199,14 @@ module _ (p : ℕ) (h : Modulus p) where
 
     involution-is : isInvolution (numbers p) (elements p) n f ≡ isInvolution R (all p) n lifted
     involution-is = involution-carried p h n f lifted entries
+
+    -- an involution, Hadamard or not, is MDS exactly if its square blocks up to half the order have nonzero determinants
+    pub involution-half : 0 < n → isInvolution (numbers p) (elements p) n f ≡ true
+        → isMds (numbers p) (elements p) n f ≡ regularUpTo (numbers p) n f 1 (n / 2)
+    involution-half g t =
+        mds-carried p h n f lifted entries
+        ∙ Squares.involution-half R L (all p) (complete p) n lifted g (sym involution-is ∙ t)
+        ∙ sym (regular-carried p h n f lifted entries 1 (n / 2))
 
     twice-carried : (x : List (Residue p))
         → map (number p) (apply R n lifted (apply R n lifted x)) ≡ apply (numbers p) n f (apply (numbers p) n f (map (number p) x))

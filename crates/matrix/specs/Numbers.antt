@@ -29,6 +29,6 @@ InField p r c m = (i j : ℕ) → i < r → j < c → entry m i j < 2 ^ degree p
 unfoldable pub WordsInField : ℕ → ℕ → List ℕ → Type 0
 WordsInField p n x = (j : ℕ) → j < n → getD x j 0 < 2 ^ degree p
 
--- the orders of the Hadamard matrices that are multiplied by halves
+-- the orders of the Hadamard matrices that are multiplied by halves, down to order 1
 abbrev pub HalvingOrder : ℕ → Type 0
 HalvingOrder n = (n ≡ 1) ⊎ ((n ≡ 2) ⊎ ((n ≡ 4) ⊎ (n ≡ 8)))

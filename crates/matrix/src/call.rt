@@ -8,7 +8,7 @@ use crate::multiply;
 use refusal::Outcome;
 use refusal::Refusal;
 ghost use mathlib.Core.Path.{_≡_};
-ghost use mathlib.Core.Bool.{_||_};
+ghost use mathlib.Core.Bool.{false, _||_};
 ghost use mathlib.Core.List.{_++_};
 ghost use Prim.Native.Nat.{_-_, _≤_};
 ghost use lib.Dec.{ltb};
@@ -16,9 +16,10 @@ ghost use lib.ListN.{getD, replicate};
 ghost use Rattle.refusal.specs.Refusals.{numberOf, answer, answerAfter, answerOf};
 ghost use Rattle.algebra.specs.Matrix.{apply, hadamard, det, branchNumber, isMds, isInvolution};
 ghost use Rattle.field.specs.Polynomial.{Modulus};
+ghost use Rattle.field.specs.Faults.{callFaults};
 ghost use Rattle.matrix.specs.Numbers.{numbers, elements, entry, InField};
 ghost use Rattle.matrix.specs.Counts.{rowCount, matrixCount};
-ghost use Rattle.matrix.specs.Answers.{yesNo, isWrongOrder, isWrongHalvedOrder, someWordTooLarge, someEntryTooLarge, valueFaults, matrixFaults};
+ghost use Rattle.matrix.specs.Answers.{yesNo, someWordTooLarge, determinantFaults, matrixFaults, rowFaults, plainFaults, halvedFaults};
 ghost use Rattle.matrix.specs.Answers.{wordsOf, checkFound, checkedOf, checkOf};
 ghost use Rattle.matrix.specs.Steps.Calls.{someValueTooLarge};
 
@@ -57,7 +58,7 @@ fn value_too_large(p: u16, m: [[u8; 8]; 8], r: usize, row: [u8; 8], n: usize) ->
 // first r lines or of the row beside them.
 fn first_fault(p: u32, wrong: bool, m: [[u8; 8]; 8], r: u32, row: [u8; 8], n: u32) -> Outcome
     requires { ⌜ (n ≤ 8 → r ≤ 8) ⌝ }
-    ensures { λ o. ⌜ answerOf o ≡ answerAfter 0 (valueFaults p (wrong || ltb 8 n) (someValueTooLarge p m r row n)) 0 ⌝ }
+    ensures { λ o. ⌜ answerOf o ≡ answerAfter 0 (callFaults p (wrong || ltb 8 n) false (someValueTooLarge p m r row n) false) 0 ⌝ }
 {
     match field::checked_degree(p) {
         Outcome::Refused(reason) => Outcome::Refused(reason),
@@ -91,7 +92,7 @@ fn yes_no(b: bool) -> u32
 
 // The determinant of a block of size 0 to 8.
 pub fn checked_determinant(p: u32, m: [[u8; 8]; 8], n: u32) -> Outcome
-    ensures { λ r. ⌜ answerOf r ≡ answerAfter 0 (valueFaults p (ltb 8 n) (someEntryTooLarge p n (entry m))) (det (numbers p) n (entry m)) ⌝ }
+    ensures { λ r. ⌜ answerOf r ≡ answerAfter 0 (determinantFaults p n (entry m)) (det (numbers p) n (entry m)) ⌝ }
 {
     match first_fault(p, false, m, n, [0u8; 8], n) {
         Outcome::Refused(r) => Outcome::Refused(r),
@@ -151,7 +152,7 @@ pub fn checked_matrix_count(p: u32, m: [[u8; 8]; 8], n: u32) -> Outcome
 
 // The XOR count of a row of 1 to 8 elements. No line beside it is looked at.
 pub fn checked_row_count(p: u32, row: [u8; 8], n: u32) -> Outcome
-    ensures { λ r. ⌜ answerOf r ≡ answerAfter 0 (valueFaults p (isWrongOrder n) (someWordTooLarge p n row)) (rowCount p n (λ j. getD row j 0)) ⌝ }
+    ensures { λ r. ⌜ answerOf r ≡ answerAfter 0 (rowFaults p n row) (rowCount p n (λ j. getD row j 0)) ⌝ }
 {
     match first_fault(p, n == 0, [row; 8], 0, row, n) {
         Outcome::Refused(r) => Outcome::Refused(r),
@@ -180,7 +181,7 @@ fn no_words(reason: Refusal) -> Words
 
 // The plain product of a matrix with an input.
 pub fn checked_plain(p: u32, m: [[u8; 8]; 8], x: [u8; 8], n: u32) -> Words
-    ensures { λ r. ⌜ wordsOf r ≡ answerAfter (replicate 8 0) (valueFaults p (isWrongOrder n) (someEntryTooLarge p n (entry m) || someWordTooLarge p n x))
+    ensures { λ r. ⌜ wordsOf r ≡ answerAfter (replicate 8 0) (plainFaults p n (entry m) x)
         (apply (numbers p) n (entry m) x ++ replicate (8 - n) 0) ⌝ }
 {
     match first_fault(p, n == 0, m, n, x, n) {
@@ -195,12 +196,12 @@ pub fn checked_plain(p: u32, m: [[u8; 8]; 8], x: [u8; 8], n: u32) -> Words
     }
 }
 
-// The product of a row's Hadamard matrix with an input, by halves.
+// The product of a row's Hadamard matrix of order 2, 4 or 8 with an input, by halves.
 pub fn checked_halved(p: u32, row: [u8; 8], x: [u8; 8], n: u32) -> Words
-    ensures { λ r. ⌜ wordsOf r ≡ answerAfter (replicate 8 0) (valueFaults p (isWrongHalvedOrder n) (someWordTooLarge p n row || someWordTooLarge p n x))
+    ensures { λ r. ⌜ wordsOf r ≡ answerAfter (replicate 8 0) (halvedFaults p n row x)
         (apply (numbers p) n (hadamard (numbers p) row) x ++ replicate (8 - n) 0) ⌝ }
 {
-    let right = (n == 1) | (n == 2) | (n == 4) | (n == 8);
+    let right = (n == 2) | (n == 4) | (n == 8);
     match first_fault(p, !right, [row; 8], 1, x, n) {
         Outcome::Refused(r) => no_words(r),
         Outcome::Value(_) => {

@@ -1,18 +1,18 @@
 -- Laws of lists of faults: the first that is there, in a list that is taken apart or put together. Assumes nothing.
 use mathlib.Core.Path.{_≡_, refl, sym, ap, ap₂, _∙_}
-use mathlib.Core.Logic.{_⊎_, inl, inr, ⊎-elim}
+use mathlib.Core.Logic.{_↔_, _⊎_, inl, inr, ⊎-elim}
 use mathlib.Core.Bool.{Bool, true, false, cond, not, _&&_, true≢false}
 use mathlib.Core.List.{List, [], _∷_, _++_, List·Memᴰ, List·Memᴰ·head, List·Memᴰ·tail, List·Memᴰ·cases-cons, List·Memᴰ·not-nil}
 use Prim.Native.Nat.{ℕ, zero, suc, _≤_, _<_}
 use native.Mathlib.Nat.{le-of-eq}
-use borrow.Author.Tests.{ltb-true, eqb-false}
+use borrow.Author.Tests.{ltb-true, eqb-false, leb-true}
 use native.Mathlib.Omega.{arith}
-use lib.Dec.{eqb, ltb, lit≤}
+use lib.Dec.{eqb, leb, ltb, lit≤}
 use Rattle.refusal.specs.declared.Outcome.{Outcome}
 use Rattle.refusal.specs.declared.Outcome.the-variants.{Value, Refused}
 use Rattle.refusal.specs.declared.Refusal.{Refusal}
 use Rattle.refusal.specs.declared.Refusal.the-variants.{Form, Kind, PolynomialRange, Reducible, OrderRange, CountRange, ValueRange, BadCandidate, NoRow, ShortSpace}
-use Rattle.refusal.specs.Refusals.{numberOf, Fault, fault, firstNumber, Applies, Answer, answer, unlessRefused, answerAfter, answerOf}
+use Rattle.refusal.specs.Refusals.{numberOf, Fault, fault, firstNumber, Applies, LowestOf, lowest, none, Answer, answer, unlessRefused, answerAfter, answerOf}
 
 -- no number of a refusal is 0
 pub number-not-zero : (r : Refusal) → numberOf r ≡ 0 → ⊥
@@ -137,6 +137,15 @@ none-first l h = go (firstNumber l) refl
     go zero e = refl
     go (suc n) e = absurd (h (suc n) (first-applies l n e))
 
+-- a fault that is there is the first of the list, or one behind it
+pub fault-here : (n : ℕ) {b : Bool} {rest : List Fault} → b ≡ true → List·Memᴰ (fault n true) (fault n b ∷ rest)
+fault-here n e = List·Memᴰ·head (ap (fault n) (sym e))
+
+pub fault-cases : {P : Type 0} (n : ℕ) {b : Bool} {rest : List Fault} {k : ℕ} → (k ≡ n → b ≡ true → P) → (List·Memᴰ (fault k true) rest → P)
+    → List·Memᴰ (fault k true) (fault n b ∷ rest) → P
+fault-cases n {b} {k = k} here behind m =
+    ⊎-elim (λ (e : fault k true ≡ fault n b). here (ap (λ (g : Fault). g .number) e) (sym (ap (λ (g : Fault). g .applies) e))) behind (List·Memᴰ·cases-cons m)
+
 -- a fault of the list whose number does not apply is not there
 pub absent : (l : List Fault) (k : ℕ) (b : Bool) → List·Memᴰ (fault k b) l → (Applies l k → ⊥) → b ≡ false
 unfolding Applies
@@ -158,6 +167,23 @@ lacks-applies k (f ∷ l) h m = go (eqb k (f .number)) refl h (List·Memᴰ·cas
     go true d x c rest = true≢false (sym x)
     go false d x (inl q) rest = eqb-false k (f .number) d (ap (λ (g : Fault). g .number) q)
     go false d x (inr q) rest = rest x q
+
+-- no number of the list is above k: a computed test
+unfoldable pub most : ℕ → List Fault → Bool
+most k [] = true
+most k (f ∷ rest) = leb (f .number) k && most k rest
+
+-- what applies is not above k
+pub applies-most : (k : ℕ) (l : List Fault) → most k l ≡ true → (j : ℕ) → Applies l j → j ≤ k
+unfolding most Applies
+applies-most k [] h j m = absurd (List·Memᴰ·not-nil m)
+applies-most k (f ∷ l) h j m = go (leb (f .number) k) refl h (List·Memᴰ·cases-cons m) (λ x y. applies-most k l x j y)
+  where
+    go : (b : Bool) → leb (f .number) k ≡ b → (b && most k l) ≡ true → (fault j true ≡ f) ⊎ List·Memᴰ (fault j true) l
+        → (most k l ≡ true → List·Memᴰ (fault j true) l → j ≤ k) → j ≤ k
+    go true d x (inl q) rest = rw (ap (λ (g : Fault). g .number) q) (leb-true (f .number) k d)
+    go true d x (inr q) rest = rest x q
+    go false d x c rest = absurd (true≢false (sym x))
 
 -- the numbers of the list ascend from above k on: a computed test
 unfoldable pub ascends : ℕ → List Fault → Bool
@@ -191,6 +217,20 @@ first-lowest k (f ∷ l) h j m = go (f .applies) refl (List·Memᴰ·cases-cons 
     go true d (inr q) rest = let r = applies-above (f .number) l (ascends-split k (f .number) l h .1) j q in omega arith
     go false d (inl q) rest = absurd (true≢false (ap (λ (g : Fault). g .applies) q ∙ d))
     go false d (inr q) rest = rest q
+
+-- the number that a call with such a list returns: the lowest that applies, or 0
+pub lowest-after : {A : Type 0} (empty value : A) (l : List Fault) → numbered l ≡ true → ascends 0 l ≡ true → LowestOf (Applies l) (answerAfter empty l value .number)
+unfolding answerAfter
+lowest-after empty value l h a = go (firstNumber l) refl
+  where
+    go : (n : ℕ) → firstNumber l ≡ n → LowestOf (Applies l) (unlessRefused empty n value .number)
+    go zero e = none (first-none l h e) refl
+    go (suc n) e = lowest (first-applies l n e) (λ k m. rw e at (first-lowest 0 l a k m))
+
+-- numbers that have the same have the same lowest
+pub lowest-same : {P Q : ℕ → Type 0} → ((k : ℕ) → P k ↔ Q k) → {n : ℕ} → LowestOf P n → LowestOf Q n
+lowest-same same {n} (lowest h least) = lowest (same n .0 h) (λ k q. least k (same k .1 q))
+lowest-same same (none h e) = none (λ k q. h k (same k .1 q)) e
 
 -- ---- what follows from a list
 

@@ -1,8 +1,9 @@
 -- Refusals in the words of document 01: the number of each, the first of a list that applies, and what a call yields.
 -- Assumes nothing.
+use mathlib.Core.Path.{_≡_}
 use mathlib.Core.Bool.{Bool, true, cond}
 use mathlib.Core.List.{List, [], _∷_, List·Memᴰ}
-use Prim.Native.Nat.{ℕ, zero, suc}
+use Prim.Native.Nat.{ℕ, zero, suc, _≤_}
 use Rattle.refusal.specs.declared.Outcome.{Outcome}
 use Rattle.refusal.specs.declared.Outcome.the-variants.{Value, Refused}
 use Rattle.refusal.specs.declared.Refusal.{Refusal}
@@ -37,6 +38,11 @@ firstNumber (f ∷ rest) = cond (f .applies) (f .number) (firstNumber rest)
 -- a number applies: some fault of the list with this number is there
 unfoldable pub Applies : List Fault → ℕ → Type 0
 Applies faults number = List·Memᴰ (fault number true) faults
+
+-- the lowest of the numbers with something; 0 where no number has it
+pub data LowestOf (Has : ℕ → Type 0) (number : ℕ) : Type 0 where
+  lowest : Has number → ((k : ℕ) → Has k → number ≤ k) → LowestOf Has number
+  none : ((k : ℕ) → Has k → ⊥) → number ≡ 0 → LowestOf Has number
 
 -- what a call yields: the number that is returned, 0 where the call is accepted, and a value
 pub record Answer (A : Type 0) : Type 0 where

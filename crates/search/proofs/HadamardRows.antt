@@ -4,30 +4,28 @@
 use mathlib.Core.Path.{_≡_, refl, sym, ap, ap₂, subst, _∙_}
 use mathlib.Core.Logic.{⊎-elim}
 use mathlib.Core.Bool.{Bool, true, false, _&&_, true≢false}
-use mathlib.Core.List.{List, [], _∷_, foldl-append, List·Memᴰ}
-use Prim.Native.Nat.{ℕ, zero, suc, _+_, _-_, _/_, _^_, _≤_, _<_}
-use native.Mathlib.Nat.{le-refl}
+use mathlib.Core.List.{List, List·Memᴰ}
+use Prim.Native.Nat.{ℕ, _-_, _/_, _^_, _≤_, _<_}
 use native.Mathlib.Omega.{arith}
 use lib.Dec.{eqb}
-use lib.ListN.{length, getD, take}
-use lib.Seq.{take-suc, take-length}
+use lib.ListN.{length, getD}
 use borrow.Author.Tests.{eqb-true, eqb-false}
 use Rattle.algebra.specs.Matrix.{sum, hadamard, isMds, isInvolution, words}
 use Rattle.algebra.proofs.Involution.{and-left, and-right}
-use Rattle.algebra.proofs.Sums.{Inverse, own}
-use Rattle.field.specs.Polynomial.{Modulus, degree, xorCount}
+use Rattle.algebra.specs.Places.{Affine}
+use Rattle.field.specs.Polynomial.{Modulus, degree}
 use Rattle.matrix.specs.Numbers.{numbers, elements, WordsInField}
-use Rattle.matrix.specs.Counts.{total, elementCount}
 use Rattle.matrix.specs.Steps.Regular.{regularUpTo}
 use Rattle.matrix.proofs.Residues.{lift, lift-number, regular-carried}
 use Rattle.matrix.proofs.Rows.{involution-row-sum, row-sum-involution, equal-entries-not-mds, half-is-enough, moved-row-mds, moved-row-involution}
+use Rattle.matrix.proofs.Tallies.{elementCount-moved}
 use Rattle.search.specs.Lightest.{ascending, lightest, rowsOver}
-use Rattle.search.specs.Steps.IndexMaps.{Move, from, moves, moved, canonical, sumOver}
+use Rattle.search.specs.Steps.IndexMaps.{Move, from, moves, moved, canonical}
 use Rattle.search.specs.Shape.{rowMatrix, isGood, hadamardShape}
 use Rattle.search.specs.Answer.{keyOf, lightestRow}
 use Rattle.search.specs.Steps.Hadamard.{SearchOrder}
 use Rattle.search.proofs.Rows.{getD-mem, mem-words, mem-ascending, sorted-ascending}
-use Rattle.search.proofs.IndexMaps.{moves-sound, moved-sumOver, canonical-rows, moved-length}
+use Rattle.search.proofs.IndexMaps.{moves-sound, moves-inverse, canonical-rows}
 
 -- ---- the order is a power of 2
 
@@ -80,10 +78,9 @@ module _ (p : ℕ) (h : Modulus p) (k : ℕ) (row : List ℕ) (below : WordsInFi
   moved-of : (m : Move) → List·Memᴰ m (moves (2 ^ k)) → isGood hadamardShape p (2 ^ k) (moved (2 ^ k) m row) ≡ isGood hadamardShape p (2 ^ k) row
   unfolding moved
   moved-of m i =
-      let ok = moves-sound (2 ^ k) m i in
-      let v : Inverse (2 ^ k) (from m) (from m) = own (2 ^ k) (from m) (ok .below) (ok .back) in
+      let a : Affine k (from m) (from m) = record { inverse = moves-inverse (2 ^ k) m i; bits = moves-sound (2 ^ k) m i .bits } in
       good-hadamard p (2 ^ k) (moved (2 ^ k) m row)
-      ∙ ap₂ _&&_ (moved-row-involution p h k row below (from m) (from m) v (ok .bits)) (moved-row-mds p h k row below (from m) (from m) v (ok .bits))
+      ∙ ap₂ _&&_ (moved-row-involution p h k row below (from m) (from m) a) (moved-row-mds p h k row below (from m) (from m) a)
       ∙ sym (good-hadamard p (2 ^ k) row)
 
 module _ (p n : ℕ) (h : Modulus p) (o : SearchOrder n) (row : List ℕ) (below : WordsInField p n row) where
@@ -118,22 +115,10 @@ regular-same p n h f g below same step most =
 
 -- ---- the key
 
--- the sum over the first entries
-sumOver-take : (c : ℕ → ℕ) (row : List ℕ) (i : ℕ) → i ≤ length row → sumOver c (take i row) ≡ total i (λ j. c (getD row j 0))
-unfolding sumOver total
-sumOver-take c row zero h = refl
-sumOver-take c row (suc i) h =
-    rw (take-suc row i 0 (omega arith)) (foldl-append _ 0 (take i row) (getD row i 0 ∷ []) ∙ ap (λ s. s + c (getD row i 0)) (sumOver-take c row i (omega arith)))
-
--- the key of a row is the sum over its entries
-key-sumOver : (p n : ℕ) (row : List ℕ) → length row ≡ n → keyOf p n row ≡ sumOver (xorCount p) row
-unfolding keyOf elementCount
-key-sumOver p n row l = rw (← l) (sym (sumOver-take (xorCount p) row (length row) (le-refl (length row))) ∙ ap (sumOver (xorCount p)) (take-length row))
-
--- a move keeps it
-pub key-moved : (p n : ℕ) (m : Move) → List·Memᴰ m (moves n) → (row : List ℕ) → length row ≡ n → keyOf p n (moved n m row) ≡ keyOf p n row
-key-moved p n m i row l =
-    key-sumOver p n (moved n m row) (moved-length n m row) ∙ moved-sumOver n m i row l (xorCount p) ∙ sym (key-sumOver p n row l)
+-- a move keeps it, as any permutation of the places does
+pub key-moved : (p n : ℕ) (m : Move) → List·Memᴰ m (moves n) → (row : List ℕ) → keyOf p n (moved n m row) ≡ keyOf p n row
+unfolding keyOf moved
+key-moved p n m i row = elementCount-moved p n (from m) (from m) (moves-inverse n m i) row
 
 -- ---- the canonical rows
 
@@ -157,7 +142,7 @@ unfolding lightestRow rowsOver
 canonical-lightest p n h o cs =
     canonical-rows (isGood hadamardShape p n) (keyOf p n) (sorted-ascending (2 ^ degree p) cs) n
     (λ r i g. good-different p n h o r (word-in-field p n cs r i) g)
-    (λ m j r i g. (good-moved p n h o r (word-in-field p n cs r i) m j ∙ g, le-of (key-moved p n m j r (mem-words _ n r .0 i .0))))
+    (λ m j r i g. (good-moved p n h o r (word-in-field p n cs r i) m j ∙ g, le-of (key-moved p n m j r)))
   where
     le-of : {a b : ℕ} → a ≡ b → a ≤ b
     le-of e = omega arith

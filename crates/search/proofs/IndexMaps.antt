@@ -1,5 +1,5 @@
 -- The index maps of order 4 and 8: each is its own inverse, affine over the index bits, and moves a row that violates its
--- inequality to an earlier row over the same letters and with the same sums. So only the canonical rows need be tried.
+-- inequality to an earlier row over the same letters. So only the canonical rows need be tried.
 -- Assumes nothing.
 use mathlib.Core.Path.{_≡_, refl, ap, _∙_}
 use mathlib.Core.Logic.{⊎-elim}
@@ -12,13 +12,15 @@ use lib.Bits.{bitXor}
 use lib.Dec.{ltb, eqb}
 use lib.ListN.{length, getD}
 use borrow.Author.Tests.{ltb-true, ltb-false, eqb-true}
-use Rattle.algebra.specs.Matrix.{tabulate, words}
+use Rattle.algebra.specs.Matrix.{words}
 use Rattle.search.specs.Lightest.{Earlier, lightest}
-use Rattle.search.specs.Steps.IndexMaps.{Move, from, mapsOfFour, mapsOfEight, moves, moved, inOrder, everyMove, canonical, sumOver, lowers, turnsBack, affine, sound}
+use Rattle.search.specs.Steps.IndexMaps.{Move, from, mapsOfFour, mapsOfEight, moves, moved, inOrder, everyMove, canonical, lowers, turnsBack, affine, sound}
 use Rattle.field.specs.Steps.{everyBelow}
 use Rattle.matrix.proofs.Squares.{every-each}
 use Rattle.search.proofs.Rows.{Sorted, earlier-at, sorted-words, mem-words, getD-mem, mem-tabulate}
-use Rattle.algebra.proofs.Words.{length-tabulate, getD-tabulate, tabulate-getD}
+use Rattle.algebra.proofs.Words.{length-tabulate, getD-tabulate}
+use Rattle.algebra.specs.Places.{Inverse}
+use Rattle.algebra.proofs.Sums.{own}
 use Rattle.search.proofs.Lightest.{canonical-suffices}
 
 -- ---- the computed test of the table
@@ -91,31 +93,11 @@ unfolding everyMove
 moves-sound n m i =
     sound-facts n m (everyMove-at (sound n) (moves n) m (moves-ind (λ n ms. everyMove (sound n) ms ≡ true) table-four table-eight (λ n. refl) n) i)
 
+-- it undoes itself
+pub moves-inverse : (n : ℕ) (m : Move) → List·Memᴰ m (moves n) → Inverse n (from m) (from m)
+moves-inverse n m i = let ok = moves-sound n m i in own n (from m) (ok .below) (ok .back)
+
 -- ---- a moved row
-
--- what holds of each of the moves
-Every : (Move → Type 0) → List Move → Type 0
-Every P [] = Unit {0}
-Every P (m ∷ ms) = P m × Every P ms
-
--- what holds of every move holds of each
-every-at : (P : Move → Type 0) (ms : List Move) (m : Move) → Every P ms → List·Memᴰ m ms → P m
-unfolding Every
-every-at P [] m e i = absurd (List·Memᴰ·not-nil i)
-every-at P (x ∷ ms) m e i = ⊎-elim (λ (q : m ≡ x). rw q (e .0)) (λ j. every-at P ms m (e .1) j) (List·Memᴰ·cases-cons i)
-
--- the same sum in another order
-SameTotal : ℕ → Move → Type 0
-SameTotal n m = (c : ℕ → ℕ) (row : List ℕ) → sumOver c (moved n m row) ≡ sumOver c (tabulate n (λ k. getD row k 0))
-
--- the sums of order 4 and of order 8, by linear arithmetic
-sumOver-four : Every (SameTotal 4) mapsOfFour
-unfolding Every SameTotal sumOver moved tabulate mapsOfFour from
-sumOver-four = omega arith
-
-sumOver-eight : Every (SameTotal 8) mapsOfEight
-unfolding Every SameTotal sumOver moved tabulate mapsOfEight from
-sumOver-eight = omega arith
 
 -- it has n entries
 pub moved-length : (n : ℕ) (m : Move) (row : List ℕ) → length (moved n m row) ≡ n
@@ -136,13 +118,6 @@ module _ (n : ℕ) (m : Move) (inTable : List·Memᴰ m (moves n)) where
       Memᴰ·cast e (getD-mem row (from m k) 0 (omega (arith, moves-sound n m inTable .below k h)))
 
   module _ (row : List ℕ) (entries : length row ≡ n) where
-    -- any sum over its entries is the same
-    pub moved-sumOver : (c : ℕ → ℕ) → sumOver c (moved n m row) ≡ sumOver c row
-    unfolding Every SameTotal
-    moved-sumOver c =
-        every-at (SameTotal n) (moves n) m (moves-ind (λ n ms. Every (SameTotal n) ms) sumOver-four sumOver-eight (λ n. tt) n) inTable c row
-        ∙ ap (sumOver c) (tabulate-getD 0 n row entries)
-
     -- it is earlier than a row that violates the inequality
     pub moved-earlier : getD row (m .high) 0 < getD row (m .low) 0 → Earlier (moved n m row) row
     moved-earlier less =

@@ -12,3 +12,5 @@ pub mod HadamardCuts
 pub mod Prefixes
 pub mod Start
 pub mod Refusals
+pub mod FewCandidates
+pub mod Limits

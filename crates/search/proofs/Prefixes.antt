@@ -19,7 +19,7 @@ use Rattle.field.proofs.Degrees.{polynomial}
 use Rattle.matrix.specs.Numbers.{WordsInField}
 use Rattle.matrix.specs.Counts.{total, elementCount}
 use Rattle.matrix.proofs.Squares.{each-every}
-use Rattle.matrix.proofs.Tallies.{xorCount-le, total-le, total-cong}
+use Rattle.matrix.proofs.Tallies.{xorCount-le, total-le, total-cong, elementCount-cong}
 use Rattle.search.specs.declared.Best.{Best as Kept}
 use Rattle.search.specs.Lightest.{Best, nothing, found, lighter, keep, keepAll, member}
 use Rattle.search.specs.Shape.{isGood}
@@ -83,8 +83,7 @@ module _ (p n : ℕ) (b : Kept) (best : Best) (long : Long n best) (e : b ≡ ke
 
 -- the count of the first entries of an array
 pub count-take : (p n : ℕ) (row : List ℕ) → elementCount p n (λ j. getD (take n row) j 0) ≡ elementCount p n (λ j. getD row j 0)
-unfolding elementCount
-count-take p n row = total-cong n _ _ (λ i l. ap (xorCount p) (getD-take n row i 0 l))
+count-take p n row = elementCount-cong p n _ _ (λ i l. getD-take n row i 0 l)
 
 -- a row that is taken, with its key
 abbrev rowKept : List ℕ → ℕ → Kept

@@ -9,7 +9,7 @@ use Rattle.refusal.specs.Refusals.{numberOf, Fault, fault, Answer, answer, answ
 use Rattle.refusal.specs.declared.Outcome.{Outcome}
 use Rattle.refusal.specs.declared.Outcome.the-variants.{Value, Refused}
 use Rattle.field.specs.Polynomial.{degree}
-use Rattle.field.specs.Faults.{isTooLarge, polynomialFaults}
+use Rattle.field.specs.Faults.{isTooLarge, callFaults}
 use Rattle.matrix.specs.Counts.{elementCount}
 use Rattle.search.specs.declared.SearchResult.{SearchResult}
 use Rattle.search.specs.Lightest.{Best, nothing, found, member, lightest, rowsOver}
@@ -59,12 +59,8 @@ isNone (found row) = false
 -- the faults of a search whose lightest row this is, in the order in which they are looked at
 unfoldable pub searchFaults : ℕ → ℕ → List ℕ → Best → List Fault
 searchFaults p n candidates best =
-    polynomialFaults p
-    ++ fault 5 (isWrongSearchOrder n)
-    ∷ fault 6 (isWrongSearchCount n (length candidates))
-    ∷ fault 7 (someTooLarge p candidates)
-    ∷ fault 8 (someBad candidates)
-    ∷ fault 9 (isNone best)
+    callFaults p (isWrongSearchOrder n) (isWrongSearchCount n (length candidates)) (someTooLarge p candidates) (someBad candidates)
+    ++ fault 9 (isNone best)
     ∷ []
 
 -- what a search finds: the sum of the row's element counts, and the row, filled up to eight entries with 0

@@ -1,8 +1,9 @@
 -- `field::checked_xor_count` meets its contract: what the polynomial is refused for, the call is. Assumes nothing.
 use mathlib.Core.Path.{_∙_}
+use Rattle.refusal.specs.Refusals.{firstNumber, answerAfter}
 use Rattle.refusal.proofs.Faults.{outcome-refused}
 use Rattle.field.specs.Polynomial.{Modulus}
-use Rattle.field.specs.Faults.{polynomialFaults}
+use Rattle.field.specs.Faults.{polynomialFaults, countFaults}
 use Rattle.field.proofs.Calls.{degree-modulus, modulus-passed, modulus-fits}
 use borrow.Author.Needs.{needs}
 use Rattle.field.proofs.checked_xor_count.Statement.{statement}
@@ -28,10 +29,12 @@ xor-count-over-requires : tie.Need-xor-count-over-requires
 xor-count-over-requires c κs = modulus c
 
 returns : tie.Need-returns
+unfolding countFaults
 returns c =
     outcome-refused _ (polynomialFaults (c .before .before .before .before .args .p)) _ (c .before .before .before .checked-degree .ensures) 0 _ _ _ (c .before .r .given .1)
 
 returns-2 : tie.Need-returns-2
+unfolding countFaults firstNumber answerAfter
 returns-2 c = c .xor-count-over .ensures ∙ modulus-passed 0 _ (c .before .before .before .before .args .p) _ (modulus (c .before))
 
 pub checked-xor-count-spec : {M : Type 1} → statement M

@@ -32,7 +32,7 @@ search-over-requires : tie.Need-search-over-requires
 search-over-requires c κs = modulus c
 
 returns : tie.Need-returns
-unfolding searchAnswer searchFaults
+unfolding searchAnswer searchFaults polynomialFaults
 returns c =
     c .refused .ensures
     ∙ outcome-refused _ (polynomialFaults (c .before .before .before .before .before .before .args .p)) _ (c .before .before .before .before .checked-degree .ensures) noRow _ _ _ (c .before .before .r .given .1)

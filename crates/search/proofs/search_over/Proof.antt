@@ -9,6 +9,7 @@ use Rattle.refusal.proofs.Faults.{after-taken, after-left}
 use Rattle.search.specs.Lightest.{Best}
 use Rattle.search.specs.Shape.{hadamardShape}
 use Rattle.search.specs.Answer.{isWrongSearchOrder, isWrongSearchCount, someTooLarge, someBad, isNone, noRow, rowFound, searchFaults, searchAnswer}
+use Rattle.field.specs.Faults.{polynomialFaults}
 use Rattle.field.proofs.Calls.{modulus-passed}
 use Rattle.search.proofs.HadamardCuts.{order-most}
 use Rattle.search.proofs.Prefixes.{best-is, kept-own}
@@ -38,7 +39,7 @@ refused-requires : tie.Need-refused-requires
 refused-requires c κs = search needs
 
 returns : tie.Need-returns
-unfolding searchAnswer searchFaults
+unfolding searchAnswer searchFaults polynomialFaults
 returns c =
     c .refused .ensures
     ∙ after-taken noRow _ OrderRange _ _ (sym (c .before .before .is-wrong-order .ensures) ∙ c .before .if1 .taken)
@@ -51,7 +52,7 @@ refused-requires-2 : tie.Need-refused-requires-2
 refused-requires-2 c κs = search needs
 
 returns-2 : tie.Need-returns-2
-unfolding searchAnswer searchFaults
+unfolding searchAnswer searchFaults polynomialFaults
 returns-2 c =
     c .refused2 .ensures
     ∙ after-taken noRow _ CountRange _ _ (sym (c .before .before .is-wrong-count .ensures) ∙ c .before .if2 .taken)
@@ -65,7 +66,7 @@ refused-requires-3 : tie.Need-refused-requires-3
 refused-requires-3 c κs = search needs
 
 returns-3 : tie.Need-returns-3
-unfolding searchAnswer searchFaults
+unfolding searchAnswer searchFaults polynomialFaults
 returns-3 c =
     c .refused3 .ensures
     ∙ after-taken noRow _ ValueRange _ _ (sym (c .before .before .some-too-large .ensures) ∙ c .before .if3 .taken)
@@ -80,7 +81,7 @@ refused-requires-4 : tie.Need-refused-requires-4
 refused-requires-4 c κs = search needs
 
 returns-4 : tie.Need-returns-4
-unfolding searchAnswer searchFaults
+unfolding searchAnswer searchFaults polynomialFaults
 returns-4 c =
     c .refused4 .ensures
     ∙ after-taken noRow _ BadCandidate _ _ (sym (c .before .before .some-bad .ensures) ∙ c .before .if4 .taken)
@@ -102,7 +103,7 @@ found-requires c κs =
     (s .pre, most, row-in-field hadamardShape (s .args .p) (s .args .n) (s .args .candidates .now) most (b .result) (b .ensures), kept-own (s .args .p) (s .args .n) (b .result) _ (row-long hadamardShape (s .args .p) (s .args .n) (s .args .candidates .now)) (b .ensures))
 
 returns-5 : tie.Need-returns-5
-unfolding searchAnswer searchFaults
+unfolding searchAnswer searchFaults polynomialFaults
 returns-5 c =
     let s = c .before .before .before .before .before .before .before .before .before .before .before in
     c .found .ensures

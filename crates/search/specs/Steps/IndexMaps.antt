@@ -1,8 +1,8 @@
 -- The index maps of Hadamard rows of order 4 and 8, and the canonical rows: every other good row is moved by one of the maps to an
 -- earlier row that is as good and as light.
 use mathlib.Core.Bool.{Bool, true, cond, _&&_}
-use mathlib.Core.List.{List, [], _∷_, foldl}
-use Prim.Native.Nat.{ℕ, _+_}
+use mathlib.Core.List.{List, [], _∷_}
+use Prim.Native.Nat.{ℕ}
 use lib.Bits.{bitXor}
 use lib.Dec.{ltb, eqb}
 use lib.ListN.{getD}
@@ -59,10 +59,6 @@ everyMove test (m ∷ ms) = test m && everyMove test ms
 -- the canonical rows: order 4 h0 < h1 < h2 < h3; order 8 h0 < h1 < h2 < h3, h2 < h4, h4 < h5, h4 < h6 and h4 < h7
 unfoldable pub canonical : ℕ → List ℕ → Bool
 canonical n row = everyMove (inOrder row) (moves n)
-
--- the sum of c over the entries of a row
-unfoldable pub sumOver : (ℕ → ℕ) → List ℕ → ℕ
-sumOver c row = foldl (λ sum a. sum + c a) 0 row
 
 -- ---- the computed test of the table
 

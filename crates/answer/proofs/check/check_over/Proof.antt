@@ -1,5 +1,5 @@
 -- `answer::check::check_over` meets its contract: the first fault of the list is told. Assumes nothing.
-use mathlib.Core.Path.{_≡_, sym, ap, _∙_}
+use mathlib.Core.Path.{_≡_, refl, sym, ap, _∙_}
 use mathlib.Core.Bool.{false, not}
 use mathlib.Core.List.{List, []}
 use Prim.Native.Nat.{ℕ, _+_, _*_}
@@ -126,6 +126,7 @@ returns-4 c =
     replied-as
     (ap (λ (l : List (List ℕ)). answer 0 l) (check-read (a .p) (now (a .part)) (a .n) (a .count) (counted .if2 .left))
     ∙ after-empty [] _
+    ∙ after-left [] _ 8 false [] refl
     ∙ after-left [] _ 7 _ _ (large tested)
     ∙ after-left [] _ 6 _ _ (count counted)
     ∙ after-left [] _ 5 _ _ (order (counted .before))

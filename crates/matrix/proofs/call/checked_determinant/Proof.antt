@@ -4,7 +4,7 @@ use borrow.Author.Tests.{ltb-false}
 use lib.Dec.{ltb}
 use Rattle.matrix.specs.Numbers.{entry}
 use Rattle.field.proofs.Calls.{modulus-fits}
-use Rattle.matrix.specs.Answers.{someEntryTooLarge}
+use Rattle.matrix.specs.Answers.{someEntryTooLarge, determinantFaults}
 use Rattle.matrix.proofs.CallFaults.{Outcome-after, same-faults, accepted, matrix-alone, entries-pass, call-refused, call-accepted}
 use borrow.Author.Needs.{needs}
 use Rattle.matrix.proofs.call.checked_determinant.Statement.{statement}
@@ -36,9 +36,11 @@ cast-t11 : tie.Need-cast-t11
 cast-t11 c = search needs
 
 returns : tie.Need-returns
+unfolding determinantFaults
 returns c = call-refused _ _ (fault (c .before .before .before)) _ _ _ (c .before .r .given .1)
 
 returns-2 : tie.Need-returns-2
+unfolding determinantFaults
 returns-2 c = call-accepted _ _ (fault (c .before .before .before)) _ _ (c .before .enum-told .given .1) (c .determinant .ensures)
 
 pub checked-determinant-spec : {M : Type 1} → statement M

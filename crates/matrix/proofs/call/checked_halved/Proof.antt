@@ -2,7 +2,7 @@
 use mathlib.Core.Path.{_∙_}
 use mathlib.Core.Bool.{_||_}
 use Rattle.field.proofs.Calls.{modulus-fits}
-use Rattle.matrix.specs.Answers.{isWrongHalvedOrder, someWordTooLarge}
+use Rattle.matrix.specs.Answers.{isWrongHalvedOrder, someWordTooLarge, halvedFaults}
 use Rattle.matrix.proofs.CallFaults.{Outcome-after, same-faults, accepted, row-input, or-none, halved-order-passes, halving-most, words-pass, call-refused, call-accepted}
 use borrow.Author.Needs.{needs}
 use Rattle.matrix.proofs.call.checked_halved.Statement.{statement}
@@ -36,9 +36,11 @@ halved-requires c κs =
     (a .modulus, halved-order-passes _ (a .order), words-pass _ _ _ row, words-pass _ _ _ words)
 
 returns : tie.Need-returns
+unfolding halvedFaults
 returns c = c .no-words .ensures ∙ call-refused _ _ (fault (c .before .before .before .before)) _ _ _ (c .before .before .r .given .1)
 
 returns-2 : tie.Need-returns-2
+unfolding halvedFaults
 returns-2 c = call-accepted _ _ (fault (c .before .before .before)) _ _ (c .before .enum-told .given .1) (c .halved .ensures)
 
 pub checked-halved-spec : {M : Type 1} → statement M

@@ -3,7 +3,7 @@ use mathlib.Core.Path.{_∙_}
 use mathlib.Core.Bool.{_||_}
 use Rattle.matrix.specs.Numbers.{entry}
 use Rattle.field.proofs.Calls.{modulus-fits}
-use Rattle.matrix.specs.Answers.{isWrongOrder, someWordTooLarge, someEntryTooLarge}
+use Rattle.matrix.specs.Answers.{isWrongOrder, someWordTooLarge, someEntryTooLarge, plainFaults}
 use Rattle.matrix.specs.Steps.Calls.{someValueTooLarge}
 use Rattle.matrix.proofs.CallFaults.{Outcome-after, accepted, or-none, order-passes, entries-pass, words-pass, call-refused, call-accepted}
 use borrow.Author.Needs.{needs}
@@ -38,9 +38,11 @@ plain-requires c κs =
     (a .modulus, order-passes _ (a .order) .1, entries-pass _ _ _ entries, words-pass _ _ _ words)
 
 returns : tie.Need-returns
+unfolding plainFaults
 returns c = c .no-words .ensures ∙ call-refused _ _ (fault (c .before .before .before .before)) _ _ _ (c .before .before .r .given .1)
 
 returns-2 : tie.Need-returns-2
+unfolding plainFaults
 returns-2 c = call-accepted _ _ (fault (c .before .before .before)) _ _ (c .before .enum-told .given .1) (c .plain .ensures)
 
 pub checked-plain-spec : {M : Type 1} → statement M

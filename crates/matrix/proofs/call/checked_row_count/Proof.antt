@@ -1,7 +1,7 @@
 -- `matrix::call::checked_row_count` meets its contract. Assumes nothing.
 use Rattle.field.specs.Polynomial.{someBelow}
 use Rattle.field.proofs.Calls.{modulus-fits}
-use Rattle.matrix.specs.Answers.{isWrongOrder, someWordTooLarge}
+use Rattle.matrix.specs.Answers.{isWrongOrder, someWordTooLarge, rowFaults}
 use Rattle.matrix.specs.Steps.Calls.{someValueTooLarge}
 use Rattle.matrix.proofs.CallFaults.{Outcome-after, accepted, order-passes, words-pass, call-refused, call-accepted}
 use borrow.Author.Needs.{needs}
@@ -33,9 +33,11 @@ row-count-requires c κs =
     (a .modulus, w .0, w .1, words-pass _ _ _ (a .values))
 
 returns : tie.Need-returns
+unfolding rowFaults
 returns c = call-refused _ _ (fault (c .before .before .before)) _ _ _ (c .before .r .given .1)
 
 returns-2 : tie.Need-returns-2
+unfolding rowFaults
 returns-2 c = call-accepted _ _ (fault (c .before .before .before)) _ _ (c .before .enum-told .given .1) (c .row-count .ensures)
 
 pub checked-row-count-spec : {M : Type 1} → statement M

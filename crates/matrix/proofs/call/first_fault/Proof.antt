@@ -1,12 +1,13 @@
 -- `matrix::call::first_fault` meets its contract: behind the polynomial's faults the order and the values decide. Assumes nothing.
-use mathlib.Core.Path.{sym, _∙_}
+use mathlib.Core.Path.{refl, sym, _∙_}
+use mathlib.Core.Bool.{false}
+use mathlib.Core.List.{[]}
 use borrow.Author.Tests.{ltb-false}
 use Rattle.refusal.specs.declared.Refusal.the-variants.{OrderRange, ValueRange}
 use Rattle.refusal.proofs.Faults.{outcome-refused, after-taken, after-left, after-empty}
 use Rattle.field.specs.Polynomial.{Modulus}
 use Rattle.field.specs.Faults.{polynomialFaults}
 use Rattle.field.proofs.Calls.{degree-modulus, modulus-passed, modulus-fits}
-use Rattle.matrix.specs.Answers.{valueFaults}
 use Rattle.matrix.proofs.CallFaults.{or-none}
 use borrow.Author.Needs.{needs}
 use Rattle.matrix.proofs.call.first_fault.Statement.{statement}
@@ -26,7 +27,6 @@ modulus : (c : tie.After-enum-told) → Modulus (c .before .before .before .args
 modulus c = degree-modulus _ (c .before .before .before .args .p) _ (c .before .before .checked-degree .ensures) (c .enum-told .given .1)
 
 returns : tie.Need-returns
-unfolding valueFaults
 returns c = after-taken 0 _ OrderRange _ _ (c .if1 .taken) ∙ modulus-passed 0 _ _ _ (modulus (c .before))
 
 cast-value-too-large : tie.Need-cast-value-too-large
@@ -39,22 +39,22 @@ value-too-large-requires c κs =
     (modulus (c .before), start .pre most, most)
 
 returns-2 : tie.Need-returns-2
-unfolding valueFaults
 returns-2 c =
     after-taken 0 _ ValueRange _ _ (sym (c .before .value-too-large .ensures) ∙ c .if2 .taken)
+    ∙ after-left 0 _ 6 false _ refl
     ∙ after-left 0 _ 5 _ _ (c .before .before .if1 .left)
     ∙ modulus-passed 0 _ _ _ (modulus (c .before .before .before))
 
 returns-3 : tie.Need-returns-3
-unfolding valueFaults
 returns-3 c =
     outcome-refused _ (polynomialFaults (c .before .before .before .before .args .p)) _ (c .before .before .before .checked-degree .ensures) 0 _ _ _ (c .before .reason .given .1)
 
 returns-4 : tie.Need-returns-4
-unfolding valueFaults
 returns-4 c =
     after-empty 0 _
+    ∙ after-left 0 _ 8 false [] refl
     ∙ after-left 0 _ 7 _ _ (sym (c .before .value-too-large .ensures) ∙ c .if2 .left)
+    ∙ after-left 0 _ 6 false _ refl
     ∙ after-left 0 _ 5 _ _ (c .before .before .if1 .left)
     ∙ modulus-passed 0 _ _ _ (modulus (c .before .before .before))
 

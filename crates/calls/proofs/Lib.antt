@@ -1,0 +1,3 @@
+-- Laws of records and replies.
+pub mod Stored
+pub mod Numbered

@@ -1,0 +1,48 @@
+-- Laws of lists of replies, each at the number of its call. Assumes nothing.
+use mathlib.Core.Path.{_≡_, refl, sym, ap, _∙_}
+use mathlib.Core.List.{List, [], _∷_, _++_, map}
+use Prim.Native.Nat.{ℕ, zero, suc, _+_, _≤_, _<_}
+use native.Mathlib.Omega.{arith}
+use lib.ListN.{length, getD, List·getD-eq-default}
+use Rattle.refusal.specs.Refusals.{Answer, answerOf}
+use Rattle.refusal.specs.declared.Outcome.{Outcome}
+use Rattle.refusal.specs.declared.Outcome.the-variants.{Value, Refused}
+use Rattle.search.specs.Answer.{saysOutcome}
+use Rattle.calls.specs.Replies.{valueReply, searchReply, nothing, replyTo}
+
+-- what stands at the number that was found
+pub at-number : {A : Type 0} (l : List A) (d : A) {call k : ℕ} {v : A} → call ≡ k → v ≡ getD l k d → v ≡ getD l call d
+at-number l d e h = h ∙ sym (ap (λ (n : ℕ). getD l n d) e)
+
+-- a number that no call has: 0, where nothing stands, or one behind the list
+pub unnumbered : {A : Type 0} (l : List A) (d : A) (call : ℕ) → d ≡ getD l 0 d → (0 < call → length l ≤ call) → d ≡ getD l call d
+unnumbered l d zero e h = e
+unnumbered l d (suc n) e h = sym (List·getD-eq-default l d {n = suc n} (h (omega arith)))
+
+-- a number above k that is none of the next five
+pub five-more : (k call : ℕ) → k < call
+    → (call ≡ k + 1 → ⊥) → (call ≡ k + 2 → ⊥) → (call ≡ k + 3 → ⊥) → (call ≡ k + 4 → ⊥) → (call ≡ k + 5 → ⊥) → k + 5 < call
+five-more k call l a b c d e = omega arith
+
+-- what the outcome and the row of a search say
+pub search-told : (o : Outcome) (row : List ℕ) → answerOf o .number ∷ answerOf o .value ∷ 0 ∷ 0 ∷ 0 ∷ row ≡ searchReply (saysOutcome o row)
+search-told (Value v) row = refl
+search-told (Refused r) row = refl
+
+-- a number that none of the four replies behind the values has
+pub values-kept : (l : List (Answer ℕ)) (a b c d : List ℕ) (call : ℕ)
+    → (call ≡ length l → ⊥) → (call ≡ length l + 1 → ⊥) → (call ≡ length l + 2 → ⊥) → (call ≡ length l + 3 → ⊥)
+    → valueReply (getD l call nothing) ≡ getD (map valueReply l ++ a ∷ b ∷ c ∷ d ∷ []) call (valueReply nothing)
+values-kept [] a b c d zero h i j k = absurd (h refl)
+values-kept [] a b c d (suc zero) h i j k = absurd (i refl)
+values-kept [] a b c d (suc (suc zero)) h i j k = absurd (j refl)
+values-kept [] a b c d (suc (suc (suc zero))) h i j k = absurd (k refl)
+values-kept [] a b c d (suc (suc (suc (suc n)))) h i j k = refl
+values-kept (v ∷ l) a b c d zero h i j k = refl
+values-kept (v ∷ l) a b c d (suc n) h i j k =
+    values-kept l a b c d n (λ e. h (omega arith)) (λ e. i (omega arith)) (λ e. j (omega arith)) (λ e. k (omega arith))
+
+-- the same call of the same values
+pub same-reply : {call call' p p' a a' b b' : ℕ} {m m' : List (List ℕ)} {x x' l l' : List ℕ}
+    → call ≡ call' → p ≡ p' → a ≡ a' → b ≡ b' → m ≡ m' → x ≡ x' → l ≡ l' → replyTo call p a b m x l ≡ replyTo call' p' a' b' m' x' l'
+same-reply e f g h i j k = cc

@@ -1,0 +1,83 @@
+"""Polynomials, elements and matrices for the comparisons: all good, in several styles, drawn with given dice."""
+import functools
+import operator
+
+import rowtext
+from rowtext import degree, field_product, hadamard
+
+POLYNOMIALS = rowtext.irreducible_polynomials()
+OF_DEGREE = {m: [p for p in POLYNOMIALS if degree(p) == m] for m in range(2, 9)}
+
+
+def elements(dice, p, how_many):
+    """So many different nonzero elements, or as many as there are."""
+    most = (1 << degree(p)) - 1
+    return dice.sample(range(1, most + 1), min(how_many, most))
+
+
+def with_sum_one(dice, p, count):
+    """Candidates of which eight sum to 1, so that a search of order 8 has something to try."""
+    while True:
+        chosen = elements(dice, p, count)
+        rest = functools.reduce(operator.xor, chosen[:7], 1)
+        if rest and rest not in chosen[:7]:
+            return list(dict.fromkeys(chosen[:7] + [rest] + chosen[7:]))[:count]
+
+
+def low_rank(dice, p, n):
+    """A product of an n × r and an r × n matrix, so its rank is at most r."""
+    r, top = dice.randint(1, n), (1 << degree(p)) - 1
+    left = [[dice.randint(0, top) for _ in range(r)] for _ in range(n)]
+    right = [[dice.randint(0, top) for _ in range(n)] for _ in range(r)]
+    entries = []
+    for i in range(n):
+        for j in range(n):
+            entry = 0
+            for k in range(r):
+                entry ^= field_product(p, left[i][k], right[k][j])
+            entries.append(entry)
+    return entries
+
+
+def cauchy(dice, p, n):
+    """1 / (x_i + y_j) with 2n different elements: MDS. One column and one line are scaled."""
+    if 2 * n > 1 << degree(p):
+        return low_rank(dice, p, n)
+    points = dice.sample(range(1 << degree(p)), 2 * n)
+    scale = dice.randint(1, (1 << degree(p)) - 1)
+    entries = [rowtext.inverse(p, x ^ y) for x in points[:n] for y in points[n:]]
+    return [field_product(p, scale, a) if k < n or k % n == 0 else a for k, a in enumerate(entries)]
+
+
+def spoilt(dice, p, n):
+    """An MDS matrix with one entry changed, so that few blocks are singular."""
+    entries = cauchy(dice, p, n)
+    entries[dice.randrange(n * n)] = dice.randint(0, (1 << degree(p)) - 1)
+    return entries
+
+
+def dense(dice, p, n):
+    return [dice.randint(0, (1 << degree(p)) - 1) for _ in range(n * n)]
+
+
+def sparse(dice, p, n):
+    return [dice.choice([0, 0, 1, dice.randint(0, (1 << degree(p)) - 1)]) for _ in range(n * n)]
+
+
+def permutation(dice, p, n):
+    """One nonzero entry in each line and column; sometimes an involution."""
+    places = dice.sample(range(n), n)
+    return [dice.choice([1, 1, 2]) if places[i] == j else 0 for i in range(n) for j in range(n)]
+
+
+def shaped(dice, p, n):
+    """A Hadamard matrix where the order allows it, its row sometimes with the sum 1; else a circulant one."""
+    row = [dice.randint(0, (1 << degree(p)) - 1) for _ in range(n)]
+    if n & (n - 1):
+        return rowtext.circulant(row)
+    if dice.random() < 0.7:
+        row[0] = functools.reduce(operator.xor, row[1:], 1)
+    return hadamard(row)
+
+
+STYLES = (dense, sparse, low_rank, cauchy, spoilt, permutation, shaped)
