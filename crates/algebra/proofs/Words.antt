@@ -1,19 +1,29 @@
--- Lists given by a function, and the list of all words over given letters.
+-- Lists given by a function, arrays that are filled from the front, and the list of all words over given letters.
 -- Assumes nothing.
 use mathlib.Core.Path.{_≡_, refl, sym, ap, _∙_}
 use mathlib.Core.Bool.{Bool, cond}
 use mathlib.Core.List.{List, [], _∷_, _++_, map, List·Memᴰ, List·Memᴰ·head, List·Memᴰ·tail, Memᴰ·cast, Memᴰ·append-left, Memᴰ·append-right, List·Memᴰ·append-cases, List·Memᴰ·cases-cons, List·Memᴰ·not-nil, List·Memᴰ·eq-of-singleton}
 use mathlib.Core.Logic.{⊎-elim}
-use Prim.Native.Nat.{ℕ, zero, suc, _+_, _≤_, _<_, suc-le-suc}
+use Prim.Native.Nat.{ℕ, zero, suc, _+_, _-_, _≤_, _<_, suc-le-suc}
 use native.Mathlib.Nat.{le-of-suc-le-suc, not-suc-le-zero, zero-lt-suc, suc-inj, suc-ne-zero, zero-add, suc-add}
 use native.Mathlib.Omega.{arith}
-use lib.ListN.{length, getD, List·getD-eq-default}
-use lib.Seq.{ext-getD}
+use lib.ListN.{length, getD, set, replicate, List·getD-eq-default}
+use lib.Seq.{ext-getD, set-at, append-snoc}
 use Rattle.algebra.specs.Matrix.{tabulate, before, words}
 
 -- what a word adds to the weight
 abbrev pub oneUnless : Bool → ℕ
 oneUnless null = cond null 0 1
+
+-- ---- arrays that are filled from the front: behind what is stored stands z
+
+-- one more element is stored
+pub stored-more : {A : Type 0} (z : A) (size i : ℕ) (stored next array : List A) (v : A) → i < size → length stored ≡ i → next ≡ stored ++ (v ∷ [])
+    → array ≡ stored ++ replicate (size - i) z → set array i v ≡ next ++ replicate (size - (i + 1)) z
+stored-more z size i stored next array v l e n a =
+    let rest : size - i ≡ suc (size - (i + 1)) = omega arith in
+    rw (a, rest, n)
+    (set-at stored z (replicate (size - (i + 1)) z) v i e ∙ sym (append-snoc stored v (replicate (size - (i + 1)) z)))
 
 -- ---- lists given by a function
 

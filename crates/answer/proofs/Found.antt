@@ -10,7 +10,8 @@ use native.Mathlib.Omega.{arith}
 use native.Mathlib.Decide.{decLt}
 use borrow.Author.Tests.{lt-ltb}
 use lib.ListN.{getD, length, take, set, replicate, length-take, List·getD-eq-default}
-use lib.Seq.{set-at, append-snoc, take-at, getD-take, ext-getD}
+use lib.Seq.{take-at, getD-take, ext-getD}
+use Rattle.algebra.proofs.Words.{stored-more}
 use Rattle.refusal.specs.Refusals.{numberOf, Fault, fault, firstNumber, Answer, answer}
 use Rattle.refusal.specs.declared.Refusal.{Refusal}
 use Rattle.refusal.specs.declared.Outcome.the-variants.{Value, Refused}
@@ -46,11 +47,8 @@ values-more s j (suc n) =
 pub values-stored : (s : List ℕ) (i : ℕ) (l : List ℕ) (v : ℕ) → i < 256 → l ≡ valuesFrom s 0 i ++ replicate (256 - i) 0 → v ≡ valueAt s i
     → set l i v ≡ valuesFrom s 0 (i + 1) ++ replicate (256 - (i + 1)) 0
 values-stored s i l v h e d =
-    let rest : 256 - i ≡ suc (256 - (i + 1)) = omega arith in
-    let zeros : List ℕ = replicate (256 - (i + 1)) 0 in
-    let next : valuesFrom s 0 (i + 1) ≡ valuesFrom s 0 i ++ (valueAt s i ∷ []) = rw (add-one i, values-more s 0 i, zero-add i) in
-    rw (e, d, rest, next)
-    (set-at (valuesFrom s 0 i) 0 zeros (valueAt s i) i (length-valuesFrom s 0 i) ∙ sym (append-snoc (valuesFrom s 0 i) (valueAt s i) zeros))
+    let next : valuesFrom s 0 (i + 1) ≡ valuesFrom s 0 i ++ (v ∷ []) = rw (add-one i, values-more s 0 i, zero-add i, d) refl in
+    stored-more 0 256 i (valuesFrom s 0 i) (valuesFrom s 0 (i + 1)) l v h (length-valuesFrom s 0 i) next e
 
 -- of more than 255 values none is looked at: the order or the count is wrong
 abbrev manyFaults : ℕ → List Fault

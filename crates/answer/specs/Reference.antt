@@ -31,10 +31,10 @@ pub data ReferenceLine : Type 0 where
   determinants : ℕ → ℕ → List ℕ → ℕ → ReferenceLine
   -- to the request of this kind, polynomial, order and values this is due
   requests : ℕ → ℕ → ℕ → List ℕ → Answer (List (List ℕ)) → ReferenceLine
-  -- a library call that may be refused so is refused with this number; 0: it is accepted
-  calls : List Fault → ℕ → ReferenceLine
   -- such a request is not refused with this number
   not-given : ℕ → ℕ → ℕ → List ℕ → ℕ → ReferenceLine
+  -- a library call that has these faults is refused with this number; 0: it is accepted
+  calls : List Fault → ℕ → ReferenceLine
   -- to a survey of this degree these lines are due, those after the first in any order
   surveys : ℕ → List (List ℕ) → ReferenceLine
   -- to the request text of these lines, byte by byte, the text of these lines is written
@@ -62,8 +62,8 @@ ReferenceSays (powers p a k c) = power p a k ≡ c
 ReferenceSays (sums elements total) = foldl _⊕_ 0 elements ≡ total
 ReferenceSays (determinants p n entries c) = det (numbers p) n (entriesOf n entries) ≡ c
 ReferenceSays (requests kind polynomial order values d) = IsDue (requestText kind polynomial order values) d
-ReferenceSays (calls faults number) = firstNumber faults ≡ number
 ReferenceSays (not-given kind polynomial order values number) = due (requestText kind polynomial order values) .number ≢ number
+ReferenceSays (calls faults number) = firstNumber faults ≡ number
 ReferenceSays (surveys degree lines) = due (requestText 3 degree 0 []) ≡ answer 0 lines
 ReferenceSays (texts request reply) = (d : Answer (List (List ℕ))) × IsDue (bytesOf request) d × (textOf (d .number) (d .value) ≡ bytesOf reply)
 

@@ -8,7 +8,7 @@ use Rattle.refusal.specs.Refusals.{Answer, answerOf}
 use Rattle.refusal.specs.declared.Outcome.{Outcome}
 use Rattle.refusal.specs.declared.Outcome.the-variants.{Value, Refused}
 use Rattle.search.specs.Answer.{saysOutcome}
-use Rattle.calls.specs.Replies.{valueReply, searchReply, nothing, replyTo}
+use Rattle.calls.specs.Replies.{valueReply, searchReply, noAnswer, replyTo}
 
 -- what stands at the number that was found
 pub at-number : {A : Type 0} (l : List A) (d : A) {call k : ℕ} {v : A} → call ≡ k → v ≡ getD l k d → v ≡ getD l call d
@@ -32,7 +32,7 @@ search-told (Refused r) row = refl
 -- a number that none of the four replies behind the values has
 pub values-kept : (l : List (Answer ℕ)) (a b c d : List ℕ) (call : ℕ)
     → (call ≡ length l → ⊥) → (call ≡ length l + 1 → ⊥) → (call ≡ length l + 2 → ⊥) → (call ≡ length l + 3 → ⊥)
-    → valueReply (getD l call nothing) ≡ getD (map valueReply l ++ a ∷ b ∷ c ∷ d ∷ []) call (valueReply nothing)
+    → valueReply (getD l call noAnswer) ≡ getD (map valueReply l ++ a ∷ b ∷ c ∷ d ∷ []) call (valueReply noAnswer)
 values-kept [] a b c d zero h i j k = absurd (h refl)
 values-kept [] a b c d (suc zero) h i j k = absurd (i refl)
 values-kept [] a b c d (suc (suc zero)) h i j k = absurd (j refl)

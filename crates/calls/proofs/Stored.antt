@@ -6,8 +6,9 @@ use native.Mathlib.Numerals.{add-one}
 use native.Mathlib.Decide.{decLt}
 use native.Mathlib.Omega.{arith}
 use lib.ListN.{length, getD, set, take, drop, replicate, length-take, length-drop}
-use lib.Seq.{take-all, take-suc, drop-cons, drop-length, set-at, append-snoc, length-take-le, getD-take, getD-drop}
-use Rattle.calls.specs.Records.{wordsAt, byteOf, bytesOf}
+use lib.Seq.{take-all, take-suc, drop-cons, drop-length, length-take-le, getD-take, getD-drop}
+use Rattle.algebra.proofs.Words.{stored-more}
+use Rattle.calls.specs.Records.{wordsAt, byteOf, asBytes}
 
 -- ---- an array of this size with the first i elements of a list in it, and zeros behind them
 
@@ -18,11 +19,8 @@ module _ (list : List ℕ) (size : ℕ) (array : List ℕ) (i : ℕ) (e : Stored
   -- the next one is stored
   pub stored-next : (v : ℕ) → i < length list → i < size → v ≡ getD list i 0 → Stored list size (set array i v) (i + 1)
   stored-next v h k d =
-      let rest : size - i ≡ suc (size - (i + 1)) = omega arith in
-      let zeros : List ℕ = replicate (size - (i + 1)) 0 in
-      let next : take (i + 1) list ≡ take i list ++ (getD list i 0 ∷ []) = rw (add-one i) (take-suc list i 0 h) in
-      rw (e, d, rest, next)
-      (set-at (take i list) 0 zeros (getD list i 0) i (length-take-le i list (omega arith)) ∙ sym (append-snoc (take i list) (getD list i 0) zeros))
+      let next : take (i + 1) list ≡ take i list ++ (v ∷ []) = rw (add-one i, d) (take-suc list i 0 h) in
+      stored-more 0 size i (take i list) (take (i + 1) list) array v k (length-take-le i list (omega arith)) next e
 
   -- all are stored
   pub stored-all : i ≡ length list → array ≡ list ++ replicate (size - i) 0
@@ -67,13 +65,13 @@ module _ (w : List ℕ) (h : length w ≡ 8) where
 
 -- ---- the bytes of numbers
 
-pub length-bytes : (l : List ℕ) → length (bytesOf l) ≡ length l * 4
-unfolding bytesOf
+pub length-bytes : (l : List ℕ) → length (asBytes l) ≡ length l * 4
+unfolding asBytes
 length-bytes [] = refl
 length-bytes (v ∷ vs) = omega (arith, length-bytes vs)
 
-pub byte-at : (l : List ℕ) (i : ℕ) → i < length l * 4 → byteOf (getD l (i / 4) 0) (i % 4) ≡ getD (bytesOf l) i 0
-unfolding bytesOf
+pub byte-at : (l : List ℕ) (i : ℕ) → i < length l * 4 → byteOf (getD l (i / 4) 0) (i % 4) ≡ getD (asBytes l) i 0
+unfolding asBytes
 byte-at [] i h = absurd (let z : ⊥ = omega arith in z)
 byte-at (v ∷ vs) zero h = refl
 byte-at (v ∷ vs) (suc zero) h = refl

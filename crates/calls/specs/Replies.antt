@@ -10,7 +10,7 @@ use Rattle.matrix.specs.Numbers.{numbers, elements, entry}
 use Rattle.matrix.specs.Counts.{rowCount, matrixCount}
 use Rattle.matrix.specs.Answers.{yesNo, determinantFaults, matrixFaults, rowFaults, plainFaults, halvedFaults, checkOf}
 use Rattle.search.specs.Answer.{RowFound, searchAnswer}
-use Rattle.calls.specs.Records.{callOf, polynomialOf, firstOf, secondOf, matrixOf, inputOf, candidatesOf}
+use Rattle.calls.specs.Records.{callIn, polynomialIn, firstIn, secondIn, matrixIn, inputIn, candidatesIn}
 
 -- ---- the reply: the number that is returned, four values and eight words; what a call does not yield is 0
 
@@ -29,13 +29,13 @@ searchReply a = a .number ∷ a .value .sum ∷ 0 ∷ 0 ∷ 0 ∷ a .value .row
 -- ---- the calls, each at its number
 
 -- nothing is called
-abbrev pub nothing : Answer ℕ
-nothing = answer 0 0
+abbrev pub noAnswer : Answer ℕ
+noAnswer = answer 0 0
 
 -- 1 degree, 2 product, 3 inverse, 4 XOR count, 5 determinant, 6 branch number, 7 MDS, 8 involution, 9 matrix count, 10 row count
 unfoldable pub valueAnswers : ℕ → ℕ → ℕ → List (List ℕ) → List ℕ → List (Answer ℕ)
 valueAnswers p a b m x =
-    nothing
+    noAnswer
     ∷ answerAfter 0 (polynomialFaults p) (degree p)
     ∷ answerAfter 0 (productFaults p a b) (product p a b)
     ∷ answerAfter 0 (inverseFaults p a) (inverse p a)
@@ -65,8 +65,8 @@ replies p a b m x candidates =
 
 -- the reply to a call; to a number that no call has, nothing
 unfoldable pub replyTo : ℕ → ℕ → ℕ → ℕ → List (List ℕ) → List ℕ → List ℕ → List ℕ
-replyTo call p a b m x candidates = getD (replies p a b m x candidates) call (valueReply nothing)
+replyTo call p a b m x candidates = getD (replies p a b m x candidates) call (valueReply noAnswer)
 
 -- the reply to a record
 unfoldable pub replyOf : List ℕ → List ℕ
-replyOf bytes = replyTo (callOf bytes) (polynomialOf bytes) (firstOf bytes) (secondOf bytes) (matrixOf bytes) (inputOf bytes) (candidatesOf bytes)
+replyOf bytes = replyTo (callIn bytes) (polynomialIn bytes) (firstIn bytes) (secondIn bytes) (matrixIn bytes) (inputIn bytes) (candidatesIn bytes)

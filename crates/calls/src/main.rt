@@ -8,8 +8,8 @@ ghost use lib.ListN.{length, take, drop, replicate, getD};
 ghost use Rattle.refusal.specs.Refusals.{answerOf};
 ghost use Rattle.matrix.specs.Answers.{wordsOf, checkedOf};
 ghost use Rattle.search.specs.Answer.{saysSearch};
-ghost use Rattle.calls.specs.Records.{numberAt, wordsAt, matrixOf, byteOf, bytesOf};
-ghost use Rattle.calls.specs.Replies.{valueReply, wordsReply, checkReply, searchReply, nothing, valueAnswers, replyTo, replyOf};
+ghost use Rattle.calls.specs.Records.{fourBytes, wordsAt, matrixIn, byteOf, asBytes};
+ghost use Rattle.calls.specs.Replies.{valueReply, wordsReply, checkReply, searchReply, noAnswer, valueAnswers, replyTo, replyOf};
 use refusal::Outcome;
 
 // ---- a record
@@ -24,7 +24,7 @@ fn wide(byte: u8) -> u32
 // The number in the four bytes from place `at` on.
 fn number_at(bytes: &[u8], at: usize) -> u32
     requires { ⌜ at + 4 ≤ length (now bytes) ⌝ }
-    ensures { λ r. ⌜ r ≡ numberAt (now (bytes .entry)) at ⌝ }
+    ensures { λ r. ⌜ r ≡ fourBytes (now (bytes .entry)) at ⌝ }
 {
     let low = wide(bytes[at]) + wide(bytes[at + 1]) * 256;
     low + wide(bytes[at + 2]) * 65536 + wide(bytes[at + 3]) * 16777216
@@ -47,7 +47,7 @@ fn words_at(bytes: &[u8], at: usize) -> [u8; 8]
 // The matrix of a record.
 fn matrix_of(bytes: &[u8]) -> [[u8; 8]; 8]
     requires { ⌜ 80 ≤ length (now bytes) ⌝ }
-    ensures { λ r. ⌜ r ≡ matrixOf (now (bytes .entry)) ⌝ }
+    ensures { λ r. ⌜ r ≡ matrixIn (now (bytes .entry)) ⌝ }
 {
     [
         words_at(bytes, 16),
@@ -166,7 +166,7 @@ fn check_reply(told: matrix::call::Checked) -> [u32; 13]
 
 // Calls 1 to 10, which yield a number.
 fn value_call(call: u32, p: u32, a: u32, b: u32, m: [[u8; 8]; 8], x: [u8; 8]) -> Outcome
-    ensures { λ r. ⌜ answerOf r ≡ getD (valueAnswers p a b m x) call nothing ⌝ }
+    ensures { λ r. ⌜ answerOf r ≡ getD (valueAnswers p a b m x) call noAnswer ⌝ }
 {
     match call {
         1 => field::checked_degree(p),
@@ -242,7 +242,7 @@ fn byte_of(v: u32, k: usize) -> u8
 
 // The bytes of a reply.
 fn bytes_of(reply: [u32; 13]) -> [u8; 52]
-    ensures { λ r. ⌜ r ≡ bytesOf reply ⌝ }
+    ensures { λ r. ⌜ r ≡ asBytes reply ⌝ }
 {
     let mut bytes = [0u8; 52];
     let mut i = 0;
@@ -256,7 +256,7 @@ fn bytes_of(reply: [u32; 13]) -> [u8; 52]
 // The answer to a record.
 fn respond(bytes: &[u8]) -> [u8; 52]
     requires { ⌜ 88 ≤ length (now bytes) ⌝ }
-    ensures { λ r. ⌜ r ≡ bytesOf (replyOf (now (bytes .entry))) ⌝ }
+    ensures { λ r. ⌜ r ≡ asBytes (replyOf (now (bytes .entry))) ⌝ }
 {
     bytes_of(reply_of(bytes))
 }

@@ -8,9 +8,9 @@ use native.Mathlib.Numerals.{add-one}
 use native.Mathlib.Omega.{arith}
 use lib.Bits.{bitXor}
 use lib.ListN.{length, getD, take, set, replicate, length-append, length-replicate, getD-replicate, List·getD-append}
-use lib.Seq.{set-at, append-snoc, ext-getD, take-suc, getD-append-add}
+use lib.Seq.{ext-getD, take-suc, getD-append-add}
 use Rattle.algebra.specs.Matrix.{tabulate, sum}
-use Rattle.algebra.proofs.Words.{length-tabulate, getD-tabulate, tabulate-add}
+use Rattle.algebra.proofs.Words.{stored-more, length-tabulate, getD-tabulate, tabulate-add}
 use Rattle.algebra.proofs.Sums.{le-or-lt}
 use Rattle.field.specs.Polynomial.{_⊕_}
 use Rattle.matrix.specs.Numbers.{numbers, entry}
@@ -66,20 +66,12 @@ module _ {A : Type 0} (z : A) (f : ℕ → A) where
       ⊎-elim (λ (m : n ≤ i). behind i m (omega arith) ∙ sym (getD-behind n i m (omega arith) d))
       (λ (m : i < n). first i m ∙ sym (getD-filled n i m d)) (le-or-lt n i))
 
-  next : (i : ℕ) → i < 8 → set (filled z f i) i (f i) ≡ filled z f (i + 1)
-  next i l =
-      let rest : 8 - i ≡ suc (8 - (i + 1)) = omega arith in
-      ap (λ (m : ℕ). set (tabulate i f ++ replicate m z) i (f i)) rest
-      ∙ set-at (tabulate i f) z (replicate (8 - (i + 1)) z) (f i) i (length-tabulate i f)
-      ∙ sym (append-snoc (tabulate i f) (f i) (replicate (8 - (i + 1)) z))
-      ∙ ap (λ (x : List A). x ++ replicate (8 - (i + 1)) z) (sym (tabulate-add i 1 f ∙ last))
-    where
-      last : tabulate i f ++ tabulate 1 (λ j. f (i + j)) ≡ tabulate i f ++ (f i ∷ [])
-      last = unfold tabulate in (rw add-zero refl)
-
   -- the next place is filled
   pub filled-more : (i : ℕ) (r : List A) (v : A) → i < 8 → r ≡ filled z f i → v ≡ f i → set r i v ≡ filled z f (i + 1)
-  filled-more i r v l e d = rw (e, d) (next i l)
+  filled-more i r v l e d = stored-more z 8 i (tabulate i f) (tabulate (i + 1) f) r v l (length-tabulate i f) (tabulate-add i 1 f ∙ last) e
+    where
+      last : tabulate i f ++ tabulate 1 (λ j. f (i + j)) ≡ tabulate i f ++ (v ∷ [])
+      last = unfold tabulate in (rw (d, add-zero) refl)
 
 -- ---- blocks
 

@@ -3,14 +3,14 @@ use mathlib.Core.Path.{_≡_, refl, _∙_}
 use Prim.Native.Nat.{_-_, _≤_}
 use native.Mathlib.Omega.{arith}
 use lib.ListN.{length}
-use Rattle.calls.specs.Records.{bytesOf}
+use Rattle.calls.specs.Records.{asBytes}
 use Rattle.calls.proofs.Stored.{Stored, stored-next, stored-full, length-bytes, byte-at}
 use borrow.Author.Needs.{needs}
 use Rattle.calls.proofs.bytes_of.Statement.{statement}
 use Rattle.calls.proofs.bytes_of.Tie as tie
 
 abbrev Inv-loop : tie.InvT-loop
-Inv-loop reply bytes₀ i₀ bytes i = (i ≤ 52) × Stored (bytesOf reply) 52 bytes i
+Inv-loop reply bytes₀ i₀ bytes i = (i ≤ 52) × Stored (asBytes reply) 52 bytes i
 
 abbrev μ-loop : tie.MeasureT-loop
 μ-loop reply bytes₀ i₀ bytes i = 52 - i

@@ -2,7 +2,7 @@
 use mathlib.Core.Path.{_≡_, refl, ap₂}
 use mathlib.Core.List.{List, _∷_}
 use Prim.Native.Nat.{ℕ}
-use Rattle.calls.specs.Records.{matrixOf}
+use Rattle.calls.specs.Records.{matrixIn}
 use borrow.Author.Needs.{needs}
 use Rattle.calls.proofs.matrix_of.Statement.{statement}
 use Rattle.calls.proofs.matrix_of.Tie as tie
@@ -36,7 +36,7 @@ line : {a b : List ℕ} {m n : List (List ℕ)} → a ≡ b → m ≡ n → a �
 line e d = ap₂ (λ (x : List ℕ) (l : List (List ℕ)). x ∷ l) e d
 
 returns : tie.Need-returns
-unfolding matrixOf
+unfolding matrixIn
 returns c =
     line (c .before .before .before .before .before .before .before .words-at .ensures)
     (line (c .before .before .before .before .before .before .words-at2 .ensures)

@@ -3,7 +3,7 @@ use mathlib.Core.Path.{_≡_, sym, ap, ap₂, _∙_}
 use Prim.Native.Nat.{ℕ}
 use lib.ListN.{length, take}
 use lib.Seq.{length-take-le}
-use Rattle.calls.specs.Records.{callOf, polynomialOf, firstOf, secondOf, inputOf, candidatesOf}
+use Rattle.calls.specs.Records.{callIn, polynomialIn, firstIn, secondIn, inputIn, candidatesIn}
 use Rattle.calls.specs.Replies.{replyOf}
 use Rattle.calls.proofs.Stored.{at-most-all}
 use Rattle.calls.proofs.Numbered.{same-reply}
@@ -48,7 +48,7 @@ size : (c : tie.After-widened) → length (c .widened .result) ≡ 256
 size c = search needs
 
 returns : tie.Need-returns
-unfolding replyOf callOf polynomialOf firstOf secondOf inputOf candidatesOf
+unfolding replyOf callIn polynomialIn firstIn secondIn inputIn candidatesIn
 returns c =
     let count = c .before .before in
     let values = count .before in

@@ -3,7 +3,7 @@ use mathlib.Core.Path.{ap, _∙_}
 use mathlib.Core.List.{List}
 use Prim.Native.Nat.{ℕ}
 use denote.Ref.{now}
-use Rattle.calls.specs.Replies.{valueReply, wordsReply, checkReply, searchReply, nothing, valueAnswers, replies, replyTo}
+use Rattle.calls.specs.Replies.{valueReply, wordsReply, checkReply, searchReply, noAnswer, valueAnswers, replies, replyTo}
 use Rattle.calls.proofs.Numbered.{at-number, values-kept}
 use borrow.Author.Needs.{needs}
 use Rattle.calls.proofs.reply_to.Statement.{statement}
@@ -51,7 +51,7 @@ unfolding replyTo replies valueAnswers
 returns c =
     let called = c .before in
     let matched = called .before in
-    at-number (listed (matched .before .before)) (valueReply nothing) (matched .match .keys1)
+    at-number (listed (matched .before .before)) (valueReply noAnswer) (matched .match .keys1)
     (c .words-reply .ensures ∙ ap wordsReply (called .checked-plain .ensures))
 
 returns-2 : tie.Need-returns-2
@@ -59,7 +59,7 @@ unfolding replyTo replies valueAnswers
 returns-2 c =
     let called = c .before in
     let matched = called .before .before in
-    at-number (listed (matched .before .before)) (valueReply nothing) (matched .match .keys2)
+    at-number (listed (matched .before .before)) (valueReply noAnswer) (matched .match .keys2)
     (c .words-reply2 .ensures ∙ ap wordsReply (called .checked-halved .ensures))
 
 returns-3 : tie.Need-returns-3
@@ -67,7 +67,7 @@ unfolding replyTo replies valueAnswers
 returns-3 c =
     let called = c .before in
     let matched = called .before in
-    at-number (listed (matched .before .before)) (valueReply nothing) (matched .match .keys3)
+    at-number (listed (matched .before .before)) (valueReply noAnswer) (matched .match .keys3)
     (c .check-reply .ensures ∙ ap checkReply (called .checked-check .ensures))
 
 returns-4 : tie.Need-returns-4
@@ -75,7 +75,7 @@ unfolding replyTo replies valueAnswers
 returns-4 c =
     let called = c .before in
     let matched = called .before in
-    at-number (listed (matched .before .before)) (valueReply nothing) (matched .match .keys4)
+    at-number (listed (matched .before .before)) (valueReply noAnswer) (matched .match .keys4)
     (c .search-reply .ensures ∙ ap searchReply (called .search .ensures))
 
 returns-5 : tie.Need-returns-5

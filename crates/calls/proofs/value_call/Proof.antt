@@ -3,7 +3,7 @@ use mathlib.Core.Path.{refl}
 use mathlib.Core.List.{List}
 use Prim.Native.Nat.{ℕ, _<_}
 use Rattle.refusal.specs.Refusals.{Answer}
-use Rattle.calls.specs.Replies.{nothing, valueAnswers}
+use Rattle.calls.specs.Replies.{noAnswer, valueAnswers}
 use Rattle.calls.proofs.Numbered.{at-number, unnumbered, five-more}
 use borrow.Author.Needs.{needs}
 use Rattle.calls.proofs.value_call.Statement.{statement}
@@ -45,43 +45,43 @@ checked-row-count-requires c κs = search needs
 
 returns : tie.Need-returns
 unfolding valueAnswers
-returns c = at-number (listed (c .before .before)) nothing (c .before .match .keys1) (c .checked-degree .ensures)
+returns c = at-number (listed (c .before .before)) noAnswer (c .before .match .keys1) (c .checked-degree .ensures)
 
 returns-2 : tie.Need-returns-2
 unfolding valueAnswers
-returns-2 c = at-number (listed (c .before .before)) nothing (c .before .match .keys2) (c .checked-product .ensures)
+returns-2 c = at-number (listed (c .before .before)) noAnswer (c .before .match .keys2) (c .checked-product .ensures)
 
 returns-3 : tie.Need-returns-3
 unfolding valueAnswers
-returns-3 c = at-number (listed (c .before .before)) nothing (c .before .match .keys3) (c .checked-inverse .ensures)
+returns-3 c = at-number (listed (c .before .before)) noAnswer (c .before .match .keys3) (c .checked-inverse .ensures)
 
 returns-4 : tie.Need-returns-4
 unfolding valueAnswers
-returns-4 c = at-number (listed (c .before .before)) nothing (c .before .match .keys4) (c .checked-xor-count .ensures)
+returns-4 c = at-number (listed (c .before .before)) noAnswer (c .before .match .keys4) (c .checked-xor-count .ensures)
 
 returns-5 : tie.Need-returns-5
 unfolding valueAnswers
-returns-5 c = at-number (listed (c .before .before)) nothing (c .before .match .keys5) (c .checked-determinant .ensures)
+returns-5 c = at-number (listed (c .before .before)) noAnswer (c .before .match .keys5) (c .checked-determinant .ensures)
 
 returns-6 : tie.Need-returns-6
 unfolding valueAnswers
-returns-6 c = at-number (listed (c .before .before)) nothing (c .before .match .keys6) (c .checked-branch-number .ensures)
+returns-6 c = at-number (listed (c .before .before)) noAnswer (c .before .match .keys6) (c .checked-branch-number .ensures)
 
 returns-7 : tie.Need-returns-7
 unfolding valueAnswers
-returns-7 c = at-number (listed (c .before .before)) nothing (c .before .match .keys7) (c .checked-mds .ensures)
+returns-7 c = at-number (listed (c .before .before)) noAnswer (c .before .match .keys7) (c .checked-mds .ensures)
 
 returns-8 : tie.Need-returns-8
 unfolding valueAnswers
-returns-8 c = at-number (listed (c .before .before)) nothing (c .before .match .keys8) (c .checked-involution .ensures)
+returns-8 c = at-number (listed (c .before .before)) noAnswer (c .before .match .keys8) (c .checked-involution .ensures)
 
 returns-9 : tie.Need-returns-9
 unfolding valueAnswers
-returns-9 c = at-number (listed (c .before .before)) nothing (c .before .match .keys9) (c .checked-matrix-count .ensures)
+returns-9 c = at-number (listed (c .before .before)) noAnswer (c .before .match .keys9) (c .checked-matrix-count .ensures)
 
 returns-10 : tie.Need-returns-10
 unfolding valueAnswers
-returns-10 c = at-number (listed (c .before .before)) nothing (c .before .match .keys10) (c .checked-row-count .ensures)
+returns-10 c = at-number (listed (c .before .before)) noAnswer (c .before .match .keys10) (c .checked-row-count .ensures)
 
 returns-11 : tie.Need-returns-11
 unfolding valueAnswers
@@ -89,7 +89,7 @@ returns-11 c =
     let call = c .before .args .call in
     let six = c .match .rest in
     let one = six .0 .0 .0 .0 .0 in
-    unnumbered (listed (c .before)) nothing call refl
+    unnumbered (listed (c .before)) noAnswer call refl
     (λ (h : 0 < call).
     five-more 5 call (five-more 0 call h (one .0 .0 .0 .0 .1) (one .0 .0 .0 .1) (one .0 .0 .1) (one .0 .1) (one .1))
     (six .0 .0 .0 .0 .1) (six .0 .0 .0 .1) (six .0 .0 .1) (six .0 .1) (six .1))
