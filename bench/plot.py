@@ -3,7 +3,7 @@ import math
 
 WIDTH, HEIGHT = 440, 320
 LEFT, RIGHT, TOP, BOTTOM = 66, 16, 56, 52
-COLOURS = ("#1f5fa8", "#c2571a")
+COLOURS = ("#1f5fa8", "#3a7d44", "#c2571a")
 
 
 def text(x, y, words, size=12, anchor="middle", colour="#222"):
@@ -56,7 +56,7 @@ def curve(scale, name, points, number):
     yield f'<polyline points="{path}" fill="none" stroke="{colour}" stroke-width="2"/>'
     for x, y in places:
         yield f'<circle cx="{x:.1f}" cy="{y:.1f}" r="3" fill="{colour}"/>'
-    yield text(LEFT + 130 * number, TOP - 8, name, 12, "start", colour)
+    yield text(LEFT + 120 * number, TOP - 8, name, 12, "start", colour)
 
 
 def panel(title, curves, left):

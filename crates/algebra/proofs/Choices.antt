@@ -1,6 +1,6 @@
 -- Choices of places: a mask, the list of its digits, and the list of its places; inputs spread over chosen places.
 use mathlib.Core.Path.{_≡_, refl, sym, ap, ap₂, _∙_, fun-ext}
-use mathlib.Core.Bool.{Bool, true, false, not, true≢false}
+use mathlib.Core.Bool.{Bool, true, false, not}
 use mathlib.Core.List.{List, [], _∷_, map}
 use Prim.Native.Nat.{ℕ, zero, suc, _+_, _*_, _/_, _%_, _^_, _≤_, _<_}
 use native.Mathlib.Nat.{not-suc-le-zero, le-of-suc-le-suc, suc-inj, suc-ne-zero, add-zero, pow-suc}
@@ -277,15 +277,6 @@ module _ (K : Operations) (L : Field K) where
       at : (b : Bool) → digit (not b) ≡ oneUnless b
       at true = refl
       at false = refl
-
-  -- the lowest digit of the support's mask is 1 where word 0 is not null
-  pub support-first : (x : List E) → isNull (getD x 0 null) ≡ false → supportMask K x % 2 ≡ 1
-  unfolding supportMask
-  support-first [] h = absurd (true≢false (sym (L .null-is) ∙ h))
-  support-first (a ∷ x) h = rw h (odd (maskOf (support K x)))
-    where
-      odd : (m : ℕ) → (m * 2 + 1) % 2 ≡ 1
-      odd m = omega arith
 
   -- a digit for each word
   pub length-nulls : (k : ℕ) (x : List E) → length (nulls K k x) ≡ length x

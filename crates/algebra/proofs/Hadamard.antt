@@ -4,7 +4,7 @@ use mathlib.Core.Path.{_≡_, refl, sym, ap, ap₂, _∙_}
 use mathlib.Core.Bool.{true, false}
 use mathlib.Core.List.{List, List·Memᴰ}
 use mathlib.Core.Logic.{_≢_}
-use Prim.Native.Nat.{ℕ, _+_, _^_, _≤_, _<_}
+use Prim.Native.Nat.{ℕ, _^_, _<_}
 use native.Mathlib.Decide.{ℕ-discrete}
 use native.Mathlib.Omega.{arith}
 use lib.Bits.{bitXor, xor-comm, xor-zero-r, xor-lt}
@@ -14,7 +14,7 @@ use Rattle.algebra.specs.Operations.{Operations}
 use Rattle.algebra.proofs.FieldLaws.{Field}
 use Rattle.algebra.specs.Matrix.{sum, apply, hadamard, weight, activity, isMds, isInvolution}
 use Rattle.algebra.proofs.Sums.{additive, delta, delta-same, delta-other, sum-cong, sum-permuted, sum-paired, square-sum, square-one}
-use Rattle.algebra.proofs.Weights.{length-apply, unit, length-unit, getD-unit, weight-unit, getD-apply-unit, added, length-added, getD-added, getD-apply-added, weight-added, weight-one, weight-null, weight-nulls}
+use Rattle.algebra.proofs.Weights.{length-apply, unit, length-unit, weight-unit, getD-apply-unit, weight-null}
 use Rattle.algebra.proofs.Branch.{light-not-mds}
 use Rattle.algebra.proofs.Involution.{product, involution-identity, identity-involution}
 use Rattle.algebra.proofs.Xor.{xor-assoc, xor-xor, xor-between, xor-zero, xor-own, xor-moves}
@@ -77,28 +77,3 @@ module _ (K : Operations) (L : Field K) (k : ℕ) (row : List (K .Element)) wher
         (getD-apply-unit K L n (hadamard K row) a 0 l (pow-pos k) ∙ rw xor-zero-r z) in
         let one : weight K (unit K n 0) ≡ 1 = weight-unit K L n 0 (pow-pos k) in
         light-not-mds K L elements complete n (hadamard K row) (unit K n 0) (length-unit K n 0) (omega arith) (omega arith)
-
-    -- equal elements at two places of the row: the sum of the unit inputs at these places is too light
-    pub equal-not-mds : (a b : ℕ) → a < 2 ^ k → b < 2 ^ k → a ≢ b → getD row a (K .null) ≡ getD row b (K .null)
-        → isMds K elements (2 ^ k) (hadamard K row) ≡ false
-    unfolding activity hadamard
-    equal-not-mds a b l m d e =
-        let n : ℕ = 2 ^ k in
-        let h : ℕ → ℕ → K .Element = hadamard K row in
-        let x : List (K .Element) = added K (unit K n a) (unit K n b) in
-        let word : (i : ℕ) → i < n → getD (apply K n h x) i (K .null) ≡ K .plus (h i a) (h i b) =
-        λ i c. getD-apply-added K L n h (unit K n a) (unit K n b) i c ∙ ap₂ (K .plus) (getD-apply-unit K L n h i a c l) (getD-apply-unit K L n h i b c m) in
-        let first : getD (apply K n h x) 0 (K .null) ≡ K .null =
-        word 0 (pow-pos k) ∙ ap (λ v. K .plus v (getD row b (K .null))) e ∙ L .plus-self (getD row b (K .null)) in
-        let second : getD (apply K n h x) (bitXor a b) (K .null) ≡ K .null =
-        word (bitXor a b) (xor-lt k a b l m)
-        ∙ ap₂ (λ (p q : ℕ). K .plus (getD row p (K .null)) (getD row q (K .null))) (ap (λ (p : ℕ). bitXor p a) (xor-comm a b) ∙ xor-xor b a) (xor-xor a b)
-        ∙ ap (K .plus (getD row b (K .null))) e ∙ L .plus-self (getD row b (K .null)) in
-        let light : weight K (apply K n h x) + 2 ≤ n =
-        weight-nulls K L n (apply K n h x) (length-apply K n h x) 0 (bitXor a b) (pow-pos k) (xor-lt k a b l m) (λ z. d (xor-zero a b (sym z))) first second in
-        let input : 0 < weight K x =
-        weight-one K L x a (getD-added K L (unit K n a) (unit K n b) a
-        ∙ ap₂ (K .plus) (getD-unit K n a a l ∙ delta-same K a a (K .one) refl) (getD-unit K n b a l ∙ delta-other K a b (K .one) d)
-        ∙ L .plus-null (K .one)) in
-        light-not-mds K L elements complete n h x (length-added K n (unit K n a) (unit K n b) (length-unit K n a) (length-unit K n b)) input
-        (omega (arith, weight-added K L (unit K n a) (unit K n b), weight-unit K L n a l, weight-unit K L n b m))

@@ -16,3 +16,4 @@ pub mod Columns
 pub mod Kernel
 pub mod Choices
 pub mod Blocks
+pub mod Planes

@@ -1,11 +1,11 @@
 -- The words of a product, the unit inputs, and the number of nonzero words.
 -- Assumes nothing.
-use mathlib.Core.Path.{_≡_, refl, sym, ap, ap₂, _∙_}
+use mathlib.Core.Path.{_≡_, refl, sym, ap, _∙_}
 use mathlib.Core.Bool.{Bool, true, false, true≢false}
 use mathlib.Core.List.{List, [], _∷_}
 use mathlib.Core.Logic.{_≢_, ⊎-elim}
 use Prim.Native.Nat.{ℕ, zero, suc, _+_, _≤_, _<_, zero-le}
-use native.Mathlib.Nat.{le-refl, le-suc, le-trans, add-le-add, suc-ne-zero, suc-inj, eq-zero-or-pos}
+use native.Mathlib.Nat.{le-refl, le-suc, le-trans, add-le-add, suc-ne-zero, eq-zero-or-pos}
 use native.Mathlib.Numerals.{add-one}
 use native.Mathlib.Decide.{ℕ-discrete}
 use native.Mathlib.Omega.{arith}
@@ -15,7 +15,7 @@ use Rattle.algebra.proofs.FieldLaws.{Field}
 use Rattle.algebra.specs.Matrix.{tabulate, sum, apply, weight}
 use Rattle.algebra.proofs.Words.{oneUnless}
 use Rattle.algebra.proofs.Words.{length-tabulate, getD-tabulate, tabulate-cong, tabulate-getD}
-use Rattle.algebra.proofs.Sums.{additive, null-plus, Naturals, naturals, delta, delta-same, delta-other, sum-cong, sum-null, sum-plus, sum-place, sum-delta, sum-first, times-null}
+use Rattle.algebra.proofs.Sums.{additive, Naturals, naturals, delta, delta-same, delta-other, sum-null, sum-plus, sum-place, sum-delta, sum-first, times-null}
 
 -- ---- the words of a product
 
@@ -43,29 +43,6 @@ length-unit K n k = length-tabulate n (λ i. delta K i k (K .one))
 pub getD-unit : (K : Operations) (n k i : ℕ) → i < n → getD (unit K n k) i (K .null) ≡ delta K i k (K .one)
 unfolding unit
 getD-unit K n k i l = getD-tabulate n (λ i. delta K i k (K .one)) i (K .null) l
-
--- the sum of two inputs, word by word; a missing word counts as 0
-unfoldable pub added : (K : Operations) → List (K .Element) → List (K .Element) → List (K .Element)
-added K [] y = y
-added K (a ∷ x) [] = a ∷ x
-added K (a ∷ x) (b ∷ y) = K .plus a b ∷ added K x y
-
--- two lists of n words give n words
-pub length-added : (K : Operations) (n : ℕ) (x y : List (K .Element)) → length x ≡ n → length y ≡ n → length (added K x y) ≡ n
-unfolding added
-length-added K n [] y e d = d
-length-added K n (a ∷ x) [] e d = e
-length-added K zero (a ∷ x) (b ∷ y) e d = absurd (suc-ne-zero (length x) e)
-length-added K (suc n) (a ∷ x) (b ∷ y) e d = ap suc (length-added K n x y (suc-inj e) (suc-inj d))
-
--- its word at place i
-pub getD-added : (K : Operations) → Field K → (x y : List (K .Element)) (i : ℕ)
-    → getD (added K x y) i (K .null) ≡ K .plus (getD x i (K .null)) (getD y i (K .null))
-unfolding added
-getD-added K L [] y i = sym (null-plus K (additive K L) (getD y i (K .null)))
-getD-added K L (a ∷ x) [] i = sym (L .plus-null (getD (a ∷ x) i (K .null)))
-getD-added K L (a ∷ x) (b ∷ y) zero = refl
-getD-added K L (a ∷ x) (b ∷ y) (suc i) = getD-added K L x y i
 
 -- ---- sums of numbers
 
@@ -210,30 +187,6 @@ module _ (K : Operations) (L : Field K) where
   pub getD-apply-unit : (n : ℕ) (f : ℕ → ℕ → K .Element) (i k : ℕ) → i < n → k < n
       → getD (apply K n f (unit K n k)) i (K .null) ≡ f i k
   getD-apply-unit n f i k l m = ap (λ x. getD x i (K .null)) (apply-unit n f k m) ∙ getD-tabulate n (λ i. f i k) i (K .null) l
-
-  -- the product with a sum
-  pub getD-apply-added : (n : ℕ) (f : ℕ → ℕ → K .Element) (x y : List (K .Element)) (i : ℕ) → i < n
-      → getD (apply K n f (added K x y)) i (K .null) ≡ K .plus (getD (apply K n f x) i (K .null)) (getD (apply K n f y) i (K .null))
-  getD-apply-added n f x y i l =
-      getD-apply K n f (added K x y) i l
-      ∙ sum-cong K n _ _ (λ j m. ap (K .times (f i j)) (getD-added K L x y j) ∙ L .times-plus (f i j) (getD x j (K .null)) (getD y j (K .null)))
-      ∙ sum-plus K (additive K L) n _ _
-      ∙ ap₂ (K .plus) (sym (getD-apply K n f x i l)) (sym (getD-apply K n f y i l))
-
-  counts-plus : (a b : K .Element) → counts K (K .plus a b) ≤ counts K a + counts K b
-  counts-plus a b = decide (K .isNull a) (K .isNull b) refl refl
-    where
-      decide : (s t : Bool) → K .isNull a ≡ s → K .isNull b ≡ t → counts K (K .plus a b) ≤ counts K a + counts K b
-      decide true true y z = rw (L .is-null a y, L .is-null b z, L .plus-null (K .null), L .null-is) zero-le
-      decide true false y z = rw z (omega (arith, oneUnless-le (K .isNull (K .plus a b))))
-      decide false t y z = rw y (omega (arith, oneUnless-le (K .isNull (K .plus a b))))
-
-  -- a sum has at most the nonzero words of both
-  pub weight-added : (x y : List (K .Element)) → weight K (added K x y) ≤ weight K x + weight K y
-  unfolding added weight
-  weight-added [] y = omega arith
-  weight-added (a ∷ x) [] = omega arith
-  weight-added (a ∷ x) (b ∷ y) = omega (arith, counts-plus a b, weight-added x y)
 
   -- a word that is 1: not weight 0
   pub weight-one : (x : List (K .Element)) (i : ℕ) → getD x i (K .null) ≡ K .one → 0 < weight K x

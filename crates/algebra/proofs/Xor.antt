@@ -59,6 +59,15 @@ xor-between a c b = sym (xor-assoc (bitXor a c) c b) ∙ ap (λ (x : ℕ). bitXo
 pub xor-zero : (a b : ℕ) → bitXor a b ≡ 0 → a ≡ b
 xor-zero a b e = sym (xor-xor a b) ∙ ap (λ (x : ℕ). bitXor x b) e
 
+-- added on the left, a can be taken away again
+pub xor-cancel : (a b c : ℕ) → bitXor a b ≡ bitXor a c → b ≡ c
+xor-cancel a b c e = sym (xor-xor b a) ∙ ap (λ (x : ℕ). bitXor x a) (xor-comm b a ∙ e ∙ xor-comm a c) ∙ xor-xor c a
+
+-- four numbers, the second and the last exchanged
+pub xor-exchange : (a b c d : ℕ) → bitXor (bitXor a b) (bitXor c d) ≡ bitXor (bitXor a d) (bitXor c b)
+xor-exchange a b c d =
+    xor-assoc a b (bitXor c d) ∙ ap (bitXor a) (xor-comm b (bitXor c d) ∙ ap (λ (x : ℕ). bitXor x b) (xor-comm c d) ∙ xor-assoc d c b) ∙ sym (xor-assoc a d (bitXor c b))
+
 -- adding t to the numbers below 2 ^ k is its own inverse
 pub xor-own : (k t : ℕ) → t < 2 ^ k → Inverse (2 ^ k) (λ i. bitXor i t) (λ i. bitXor i t)
 xor-own k t l = own (2 ^ k) (λ i. bitXor i t) (λ i m. xor-lt k i t m l) (λ i m. xor-xor i t)

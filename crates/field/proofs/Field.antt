@@ -3,7 +3,7 @@ use mathlib.Core.Path.{_≡_, sym, ap, ap₂, _∙_}
 use Prim.Native.Nat.{ℕ, _+_, _*_, _/_, _%_, _^_, _<_}
 use native.Mathlib.Nat.{zero-mul, one-mul, mul-div-cancel, mul-mod-left, add-zero, zero-lt-suc}
 use Rattle.field.specs.Polynomial.{_⊕_, _⊗_, reduce, rem, product}
-use Rattle.field.proofs.Sum.{at-digit}
+use Rattle.field.proofs.Sum.{sum-comm, at-digit}
 use Rattle.field.proofs.Ring.{product-comm, product-assoc, product-sum-l, product-zero-l, product-one-l, product-one-r, product-step-r, product-double-l, product-double-r}
 use Rattle.field.proofs.Degrees.{HasDegree}
 use Rattle.field.proofs.Division.{rem-zero, rem-step, rem-lt, rem-small, rem-sum, rem-product}
@@ -82,6 +82,14 @@ module _ (p m : ℕ) (d : HasDegree p m) where
       ap (rem p) (product-double-r a b ∙ sym (twice (a ⊗ b)))
       ∙ sym (rem-product p m (a ⊗ b) 2 d)
       ∙ ap (rem p) (twice (rem p (a ⊗ b)))
+
+  -- the other step: from the product with half of b, which is doubled
+  pub times-half : (a b : ℕ) → a < 2 ^ m → product p a b ≡ rem p (product p a (b / 2) * 2) ⊕ b % 2 * a
+  times-half a b h =
+      times-step a b h
+      ∙ sum-comm (b % 2 * a) (product p (rem p (a * 2)) (b / 2))
+      ∙ ap (λ (x : ℕ). x ⊕ b % 2 * a)
+      (times-rem-l (a * 2) (b / 2) ∙ times-comm p (a * 2) (b / 2) ∙ times-double (b / 2) a ∙ ap (λ (x : ℕ). rem p (x * 2)) (times-comm p (b / 2) a))
 
   -- a doubled element is reduced by one step
   pub double-reduce : (a : ℕ) → a < 2 ^ m → rem p (a * 2) ≡ reduce p (a * 2)

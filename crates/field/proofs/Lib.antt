@@ -7,5 +7,6 @@ pub mod Field
 pub mod Inverses
 pub mod Irreducibility
 pub mod Completeness
+pub mod ProductTable
 pub mod Calls
 pub mod Limits

@@ -1,13 +1,13 @@
 -- Laws of the sum, the exclusive or. Assumes nothing.
-use mathlib.Core.Path.{_≡_, refl, sym, ap, ap₂, _∙_, subst}
+use mathlib.Core.Path.{_≡_, refl, sym, ap, ap₂, _∙_, subst, subst⁻¹}
 use mathlib.Core.Logic.{_⊎_, inl, inr, ⊎-elim}
 use Prim.Native.Nat.{ℕ, zero, suc, _+_, _*_, _/_, _%_, _^_, _≤_, _<_}
-use native.Mathlib.Nat.{add-zero, pow-suc, div-eq-of-lt-le, div-lt-iff-lt-mul, mul-div-cancel, mul-mod-left, mod-lt, zero-lt-suc, one-mul, lt-of-not-le, not-le-of-lt}
+use native.Mathlib.Nat.{add-zero, pow-suc, div-eq-of-lt-le, div-lt-iff-lt-mul, mul-div-cancel, mul-mod-left, mod-lt, zero-lt-suc, zero-mul, one-mul, lt-of-not-le, not-le-of-lt}
 use native.Mathlib.Decide.{decLe}
 use native.Mathlib.Omega.{arith}
 use lib.Arith.{bin-ind, digits-mod}
 use lib.Pow.{pow-pos}
-use lib.Bits.{differ, xor-step, xor-zero-l, xor-zero-r, xor-comm, xor-self, xor-lt, xor-shr, xor-shifted}
+use lib.Bits.{bitAnd, and-mask, differ, xor-step, xor-zero-l, xor-zero-r, xor-comm, xor-self, xor-lt, xor-shr, xor-shifted}
 use Rattle.field.specs.Polynomial.{_⊕_}
 
 -- ---- digits
@@ -135,3 +135,9 @@ sum-tops k a b ha ha' hb hb' =
   where
     none : (a ⊕ b) / 2 ^ k ≡ 0
     none = sum-shr a b k ∙ ap₂ _⊕_ (leading k a ha ha') (leading k b hb hb') ∙ sum-self 1
+
+-- what the lowest bit of y selects
+pub selected : (y x k : ℕ) → x < 2 ^ k → bitAnd y 1 * x < 2 ^ k
+selected y x k h =
+    subst⁻¹ (λ (n : ℕ). n * x < 2 ^ k) (and-mask y 1)
+    (at-digit (λ d. d * x < 2 ^ k) (subst⁻¹ (λ (n : ℕ). n < 2 ^ k) (zero-mul x) (pow-pos k)) (subst⁻¹ (λ (n : ℕ). n < 2 ^ k) (one-mul x) h) y)

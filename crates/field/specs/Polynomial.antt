@@ -2,11 +2,13 @@
 -- bit i is the coefficient of x^i; an element of the field of degree m is a number below 2^m.
 -- Assumes nothing.
 use mathlib.Core.Path.{_≡_}
-use mathlib.Core.Bool.{Bool, true, false, not, _&&_, _||_}
-use Prim.Native.Nat.{ℕ, zero, suc, _+_, _-_, _*_, _/_, _%_, _^_, _≤_, min}
+use mathlib.Core.Bool.{Bool, true, false, cond, not, _&&_, _||_}
+use mathlib.Core.List.{List}
+use Prim.Native.Nat.{ℕ, zero, suc, _+_, _-_, _*_, _/_, _%_, _^_, _≤_, _<_, min}
 use lib.Bits.{bitXor}
 use lib.Count.{ones}
-use lib.Dec.{eqb, leb}
+use lib.Dec.{eqb, leb, ltb}
+use lib.ListN.{getD}
 
 infixl 68 _⊕_
 infixl 69 _⊗_
@@ -90,3 +92,13 @@ onesInColumns p a (suc k) = onesInColumns p a k + ones (product p a (2 ^ k))
 unfoldable pub xorCount : ℕ → ℕ → ℕ
 xorCount p zero = 0
 xorCount p (suc a) = onesInColumns p (suc a) (degree p) - degree p
+
+-- ---- the table of all products
+
+-- entry i of a table of all products: a times b at place a · 256 + b, for every element a and every byte b; 0 behind them
+unfoldable pub productAt : ℕ → ℕ → ℕ
+productAt p i = cond (ltb (i / 256) (2 ^ degree p)) (product p (i / 256) (i % 256)) 0
+
+-- an array of 65,536 is the table of all products
+unfoldable pub Products : ℕ → List ℕ → Type 0
+Products p table = (i : ℕ) → i < 65536 → getD table i 0 ≡ productAt p i

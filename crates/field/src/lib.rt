@@ -3,12 +3,12 @@
 
 ghost use mathlib.Core.Path.{_≡_};
 ghost use mathlib.Core.Bool.{_||_};
-ghost use Prim.Native.Nat.{_*_, _^_, _≤_, _<_};
+ghost use Prim.Native.Nat.{_*_, _/_, _^_, _≤_, _<_};
 ghost use lib.Dec.{eqb};
 ghost use mathlib.Core.List.{[], _∷_};
 ghost use Rattle.refusal.specs.Refusals.{fault, answerAfter, answerOf};
 ghost use Rattle.field.specs.Faults.{isTooLarge, polynomialFaults, productFaults, inverseFaults, countFaults};
-ghost use Rattle.field.specs.Polynomial.{Modulus, degree, isIrreducible, reduce, rem, product, inverse, xorCount};
+ghost use Rattle.field.specs.Polynomial.{Modulus, degree, isIrreducible, reduce, rem, product, inverse, xorCount, Products};
 use refusal::Outcome;
 use refusal::Refusal;
 
@@ -143,6 +143,39 @@ pub fn product(p: u16, a: u8, b: u8) -> u8
         y >>= 1;
     }
     r as u8
+}
+
+// The product of a and b from that of a and half of b: doubled, and a is added where b is odd.
+fn product_by_half(p: u16, a: u8, b: u8, half: u8) -> u8
+    requires { ⌜ Modulus p × (a < 2 ^ degree p) × (half ≡ product p a (b / 2)) ⌝ }
+    ensures { λ r. ⌜ r ≡ product p a b ⌝ }
+{
+    let twice = double(p, half as u16);
+    (twice ^ (b as u16 & 1) * a as u16) as u8
+}
+
+// The table of all products: a times b at place a·256 + b, for every element a and every byte b; 0 behind them.
+pub fn products(p: u16) -> [u8; 65536]
+    requires { ⌜ Modulus p ⌝ }
+    ensures { λ r. ⌜ Products p r ⌝ }
+{
+    let end: usize = 256 << degree(p);
+    let mut r = [0u8; 65536];
+    let mut i: usize = 0;
+    while i < end {
+        let half = r[i - i % 256 + i % 256 / 2];
+        r[i] = product_by_half(p, (i / 256) as u8, (i % 256) as u8, half);
+        i += 1;
+    }
+    r
+}
+
+// The product, looked up in the table.
+pub fn times(p: u16, products: &[u8; 65536], a: u8, b: u8) -> u8
+    requires { ⌜ (a < 2 ^ degree p) × Products p (now products) ⌝ }
+    ensures { λ r. ⌜ r ≡ product p a b ⌝ }
+{
+    products[a as usize * 256 + b as usize]
 }
 
 // The element whose product with a is 1.

@@ -1,12 +1,15 @@
 -- Laws of matrices over the numbers of a field.
 pub mod Squares
+pub mod Translates
 pub mod Residues
 pub mod Theorems
 pub mod Rows
+pub mod Planes
 pub mod Filled
 pub mod Halving
 pub mod Minors
 pub mod Selections
+pub mod Masks
 pub mod Regularity
 pub mod CallFaults
 pub mod Tallies

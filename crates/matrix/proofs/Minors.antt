@@ -2,7 +2,7 @@
 use mathlib.Core.Path.{_≡_, refl, sym, ap, ap₂, _∙_}
 use mathlib.Core.List.{List}
 use Prim.Native.Nat.{ℕ, zero, suc, _+_, _-_, _^_, _≤_, _<_}
-use native.Mathlib.Nat.{not-suc-le-zero, le-of-suc-le-suc}
+use native.Mathlib.Nat.{not-suc-le-zero, le-of-suc-le-suc, zero-lt-suc}
 use native.Mathlib.Numerals.{add-one}
 use native.Mathlib.Omega.{arith}
 use borrow.Author.Count.{below-more}
@@ -11,9 +11,9 @@ use lib.Seq.{getD-set-same, getD-set-other}
 use lib.Bits.{bitXor}
 use Rattle.algebra.specs.Matrix.{sum, skip, without, det}
 use Rattle.algebra.proofs.Bridge.{skip-lt, det-cong}
-use Rattle.field.specs.Polynomial.{Modulus, degree, product, _⊕_}
+use Rattle.field.specs.Polynomial.{degree, overDigits, digitsWithin, rem, _⊗_, product, _⊕_}
 use Rattle.field.proofs.Sum.{sum-zero-l}
-use Rattle.field.proofs.Degrees.{polynomial}
+use Rattle.field.proofs.Degrees.{has-degree}
 use Rattle.field.proofs.Field.{times-one-r}
 use Rattle.matrix.specs.Numbers.{numbers, entry, InField}
 use Rattle.matrix.specs.Steps.Blocks.{framed}
@@ -69,10 +69,41 @@ pub det-none : (p : ℕ) (f : ℕ → ℕ → ℕ) → 1 ≡ det (numbers p) 0 f
 unfolding det
 det-none p f = refl
 
+-- an element times 1; the polynomial 0 has the element 0 alone
+times-one : (p a : ℕ) → a < 2 ^ degree p → product p a 1 ≡ a
+unfolding degree product rem _⊗_ overDigits digitsWithin
+times-one zero a l = let z : a ≡ 0 = omega arith in rw z refl
+times-one (suc p) a l = times-one-r (suc p) (degree (suc p)) (has-degree (suc p) (zero-lt-suc p)) a l
+
 -- of a single entry
-pub det-single : (p : ℕ) (f : ℕ → ℕ → ℕ) → Modulus p → f 0 0 < 2 ^ degree p → f 0 0 ≡ det (numbers p) 1 f
+pub det-single : (p : ℕ) (f : ℕ → ℕ → ℕ) → f 0 0 < 2 ^ degree p → f 0 0 ≡ det (numbers p) 1 f
 unfolding det sum
-det-single p f h l = sym (sum-zero-l (product p (f 0 0) 1) ∙ times-one-r p (degree p) (polynomial p h .has) (f 0 0) l)
+det-single p f l = sym (sum-zero-l (product p (f 0 0) 1) ∙ times-one p (f 0 0) l)
+
+-- of two lines
+pub det-two : (p : ℕ) (f : ℕ → ℕ → ℕ) → f 1 0 < 2 ^ degree p → f 1 1 < 2 ^ degree p
+    → product p (f 0 0) (f 1 1) ⊕ product p (f 0 1) (f 1 0) ≡ det (numbers p) 2 f
+unfolding det sum without skip
+det-two p f l m =
+    ap₂ _⊕_
+    (ap (product p (f 0 0)) (det-single p (without f 0) m) ∙ sym (sum-zero-l (product p (f 0 0) (det (numbers p) 1 (without f 0)))))
+    (ap (product p (f 0 1)) (det-single p (without f 1) l))
+
+-- of lines 1 and 2 in columns i and j
+abbrev pub lowerMinor : ℕ → (ℕ → ℕ → ℕ) → ℕ → ℕ → ℕ
+lowerMinor p f i j = product p (f 1 i) (f 2 j) ⊕ product p (f 1 j) (f 2 i)
+
+-- of three lines
+pub det-three : (p : ℕ) (f : ℕ → ℕ → ℕ) → ((j : ℕ) → j < 3 → f 2 j < 2 ^ degree p)
+    → product p (f 0 0) (lowerMinor p f 1 2) ⊕ product p (f 0 1) (lowerMinor p f 0 2) ⊕ product p (f 0 2) (lowerMinor p f 0 1) ≡ det (numbers p) 3 f
+unfolding det sum without skip
+det-three p f below =
+    ap₂ _⊕_
+    (ap₂ _⊕_
+    (ap (product p (f 0 0)) (det-two p (without f 0) (below 1 (omega arith)) (below 2 (omega arith)))
+    ∙ sym (sum-zero-l (product p (f 0 0) (det (numbers p) 2 (without f 0)))))
+    (ap (product p (f 0 1)) (det-two p (without f 1) (below 0 (omega arith)) (below 2 (omega arith)))))
+    (ap (product p (f 0 2)) (det-two p (without f 2) (below 0 (omega arith)) (below 1 (omega arith))))
 
 -- the entries of the block left are elements
 pub minor-in-field : (p n j : ℕ) (block r : List (List ℕ)) → 1 ≤ n → n ≤ 8 → InField p n n block

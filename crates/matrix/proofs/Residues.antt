@@ -1,7 +1,7 @@
 -- The numbers below 2^m are a field: the theorems of crate algebra hold for them, and carry over to numbers.
 -- Assumes nothing.
 use mathlib.Core.Path.{_≡_, refl, sym, ap, _∙_}
-use mathlib.Core.Bool.{false}
+use mathlib.Core.Bool.{Bool, false}
 use mathlib.Core.HLevel.{Σ-prop-path}
 use mathlib.Core.List.{List, [], _∷_, map, List·Memᴰ, List·Memᴰ·head, List·Memᴰ·tail, Memᴰ·cast}
 use Prim.Native.Nat.{ℕ, zero, suc, _^_, _%_, _<_, suc-le-suc}
@@ -25,7 +25,7 @@ use Rattle.field.proofs.Field.{times-assoc, times-comm, times-one-r, times-sum-
 use Rattle.field.proofs.Inverses.{inverse-exists}
 use Rattle.field.proofs.Irreducibility.{irreducible-to}
 use Rattle.matrix.specs.Numbers.{numbers, elements, WordsInField}
-use Rattle.matrix.specs.Steps.Regular.{regularUpTo}
+use Rattle.matrix.specs.Steps.Regular.{regularBetween}
 use Rattle.matrix.proofs.Squares.{regular-bridge}
 
 -- ---- elements
@@ -198,5 +198,6 @@ module _ (p : ℕ) (h : Modulus p) where
         ∙ involution-bridge residues (numbers p) (number p) number-keeps n F f e (residueList p)
 
     -- the test of square blocks
-    pub regular-carried : (step most : ℕ) → regularUpTo (numbers p) n f step most ≡ regularUpTo residues n F step most
+    pub regular-carried : (least : Bool) (above most : ℕ)
+        → regularBetween (numbers p) n f least above most ≡ regularBetween residues n F least above most
     regular-carried = regular-bridge residues (numbers p) (number p) number-keeps n F f e

@@ -14,20 +14,21 @@ use Rattle.algebra.proofs.FieldLaws.{Field}
 use Rattle.algebra.specs.Matrix.{tabulate, sum, hadamard, branchNumber, isMds, isInvolution}
 use Rattle.algebra.specs.Places.{moved, Affine}
 use Rattle.algebra.proofs.Words.{getD-tabulate, tabulate-cong}
-use Rattle.algebra.proofs.Hadamard.{involution-sum, sum-involution, null-not-mds, equal-not-mds}
+use Rattle.algebra.proofs.Hadamard.{involution-sum, sum-involution, null-not-mds}
+use Rattle.algebra.proofs.Planes.{equal-not-mds}
 use Rattle.algebra.proofs.Symmetry.{same-bool, branch-row, mds-row, involution-row}
 use Rattle.algebra.proofs.Bridge.{sum-bridge}
 use Rattle.field.specs.Polynomial.{Modulus}
 use Rattle.matrix.specs.Numbers.{numbers, elements, WordsInField}
 use Rattle.matrix.specs.Counts.{rowCount, matrixCount}
-use Rattle.matrix.specs.Steps.Regular.{regularUpTo}
+use Rattle.matrix.specs.Steps.Regular.{regularBetween}
 use Rattle.matrix.proofs.Tallies.{count-moved, hadamard-count}
-use Rattle.matrix.proofs.Squares as Squares
+use Rattle.matrix.proofs.Translates as Translates
 use Rattle.matrix.proofs.Residues.{Residue, number, lift, lift-number, same-number, residueList as all, residues-complete as complete, residues, number-keeps, residues-field}
 use Rattle.matrix.proofs.Residues.{branch-carried, mds-carried, involution-carried, regular-carried}
 
 -- the first n entries of a row, as elements
-lifted : (p n : ℕ) → List ℕ → List (Residue p)
+pub lifted : (p n : ℕ) → List ℕ → List (Residue p)
 lifted p n row = tabulate n (λ i. lift p (getD row i 0))
 
 module _ (p : ℕ) (h : Modulus p) (k : ℕ) where
@@ -39,15 +40,18 @@ module _ (p : ℕ) (h : Modulus p) (k : ℕ) where
   L = residues-field p h
 
   module _ (row : List ℕ) (below : WordsInField p (2 ^ k) row) where
-    word : (i : ℕ) → i < 2 ^ k → getD (lifted p (2 ^ k) row) i (R .null) .0 ≡ getD row i 0
+    -- entry i, as an element
+    pub word : (i : ℕ) → i < 2 ^ k → getD (lifted p (2 ^ k) row) i (R .null) .0 ≡ getD row i 0
     unfolding lifted WordsInField
     word i l = ap (number p) (getD-tabulate (2 ^ k) (λ i. lift p (getD row i 0)) i (R .null) l) ∙ lift-number p (getD row i 0) (below i l)
 
-    entries : (i j : ℕ) → i < 2 ^ k → j < 2 ^ k → hadamard R (lifted p (2 ^ k) row) i j .0 ≡ hadamard (numbers p) row i j
+    -- the matrix's entries
+    pub entries : (i j : ℕ) → i < 2 ^ k → j < 2 ^ k → hadamard R (lifted p (2 ^ k) row) i j .0 ≡ hadamard (numbers p) row i j
     unfolding hadamard
     entries i j l m = word (bitXor i j) (xor-lt k i j l m)
 
-    sums : sum R (2 ^ k) (λ i. getD (lifted p (2 ^ k) row) i (R .null)) .0 ≡ sum (numbers p) (2 ^ k) (λ i. getD row i 0)
+    -- the row's sum
+    pub sums : sum R (2 ^ k) (λ i. getD (lifted p (2 ^ k) row) i (R .null)) .0 ≡ sum (numbers p) (2 ^ k) (λ i. getD row i 0)
     sums = sum-bridge R (numbers p) (number p) (number-keeps p h) (2 ^ k) _ _ word
 
     -- a Hadamard matrix is an involution exactly where the sum of its row is 1
@@ -83,14 +87,14 @@ module _ (p : ℕ) (h : Modulus p) (k : ℕ) where
         mds-carried p h (2 ^ k) _ _ entries
         ∙ null-not-mds R L k _ (all p) (complete p) a l (same-number p _ _ (word a l ∙ z))
 
-    -- of a Hadamard involution the blocks up to half the order with column 0 decide on MDS
-    pub half-is-enough : 1 ≤ k → sum (numbers p) (2 ^ k) (λ i. getD row i 0) ≡ 1
+    -- of a Hadamard involution the blocks up to half the order decide on MDS, of the choices of columns those that no translation makes smaller
+    pub half-is-enough : 1 ≤ k → k ≤ 3 → sum (numbers p) (2 ^ k) (λ i. getD row i 0) ≡ 1
         → isMds (numbers p) (elements p) (2 ^ k) (hadamard (numbers p) row)
-        ≡ regularUpTo (numbers p) (2 ^ k) (hadamard (numbers p) row) 2 (2 ^ (k - 1))
-    half-is-enough g one =
+        ≡ regularBetween (numbers p) (2 ^ k) (hadamard (numbers p) row) true 0 (2 ^ (k - 1))
+    half-is-enough low high one =
         mds-carried p h (2 ^ k) _ _ entries
-        ∙ Squares.half-is-enough R L (all p) (complete p) k _ g (same-number p _ _ (sums ∙ one))
-        ∙ sym (regular-carried p h (2 ^ k) _ _ entries 2 (2 ^ (k - 1)))
+        ∙ Translates.half-is-enough R L (all p) (complete p) k low high _ (same-number p _ _ (sums ∙ one))
+        ∙ sym (regular-carried p h (2 ^ k) _ _ entries true 0 (2 ^ (k - 1)))
 
   -- ---- the row with its places moved
 

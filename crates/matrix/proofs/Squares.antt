@@ -1,34 +1,29 @@
--- MDS by square blocks, over any field: all of them; for an involution those up to half the order, and for a Hadamard involution of these
--- only those with column 0.
--- Assumes nothing.
-use mathlib.Core.Path.{_≡_, refl, sym, ap, ap₂, _∙_}
+-- MDS by square blocks, over any field: all of them; for an involution those up to half the order. Which choices of columns are looked
+-- at, and from which size on, is open. Assumes nothing.
+use mathlib.Core.Path.{_≡_, refl, sym, ap, _∙_}
 use mathlib.Core.Bool.{Bool, true, false, not, _&&_, _||_, false≢true, true≢false}
-use mathlib.Core.List.{List, [], _∷_, List·Memᴰ}
+use mathlib.Core.List.{List, List·Memᴰ}
 use mathlib.Core.Logic.{⊎-elim}
-use Prim.Native.Nat.{ℕ, zero, suc, _+_, _-_, _/_, _%_, _^_, _≤_, _<_, suc-le-suc}
-use native.Mathlib.Nat.{pow-suc, not-suc-le-zero, le-of-suc-le-suc, zero-lt-suc, le-refl, le-suc, le-trans, eq-or-lt-of-le}
+use Prim.Native.Nat.{ℕ, zero, suc, _+_, _/_, _^_, _≤_, _<_, suc-le-suc}
+use native.Mathlib.Nat.{not-suc-le-zero, le-of-suc-le-suc, le-refl, le-suc, le-trans, eq-or-lt-of-le}
 use native.Mathlib.Omega.{arith}
-use lib.Bits.{bitXor, xor-zero-l}
-use lib.Dec.{eqb}
+use lib.Dec.{eqb, ltb}
 use lib.ListN.{length, getD}
-use lib.Pow.{pow-pos}
-use borrow.Author.Tests.{eqb-true, eq-eqb}
+use borrow.Author.Tests.{ltb-false, le-ltb, eqb-true, eq-eqb, not-false}
 use Rattle.algebra.specs.Operations.{Operations}
 use Rattle.algebra.proofs.FieldLaws.{Field}
-use Rattle.algebra.specs.Matrix.{sum, hadamard, det, weight, activity, isMds, isInvolution, block, chosen}
-use Rattle.algebra.specs.Places.{moved}
-use Rattle.algebra.proofs.Words.{oneUnless, length-tabulate, getD-tabulate}
+use Rattle.algebra.specs.Matrix.{det, weight, activity, isMds, isInvolution, block, chosen}
 use Rattle.algebra.proofs.Sums.{le-or-lt}
 use Rattle.algebra.proofs.Weights.{weight-le}
 use Rattle.algebra.proofs.Branch.{mds-activity, activity-mds}
 use Rattle.algebra.proofs.Involution.{and-left, and-right, half-suffices}
-use Rattle.algebra.proofs.Hadamard.{sum-involution}
-use Rattle.algebra.proofs.Symmetry.{same-bool, translate}
-use Rattle.algebra.proofs.Choices.{supportMask, support-first, chosen-lt}
+use Rattle.algebra.proofs.Symmetry.{same-bool}
+use Rattle.algebra.proofs.Choices.{supportMask, chosen-lt}
 use Rattle.algebra.proofs.Blocks.{singular-light, light-block}
 use Rattle.algebra.proofs.Bridge.{Homomorphism, det-bridge}
 use Rattle.field.specs.Steps.{everyBelow}
-use Rattle.matrix.specs.Steps.Regular.{isRegularBlock, regularOfSize, regularUpTo}
+use Rattle.matrix.specs.Steps.Choice.{isLookedAt}
+use Rattle.matrix.specs.Steps.Regular.{isRegularBlock, regularOfSize, regularBetween}
 
 -- ---- tests of all numbers below n
 
@@ -62,6 +57,17 @@ every-fails (suc n) test e = decide (everyBelow n test) refl (every-fails n test
     decide true q less = (n, le-refl (suc n), rw q at e)
     decide false q less = let r = less q in (r .0, le-trans (r .1) (le-suc n), r .2)
 
+-- ---- one of two tests
+
+-- the second passes where the first fails: one passes
+or-of : (a t : Bool) → (a ≡ false → t ≡ true) → (a || t) ≡ true
+or-of true t h = refl
+or-of false t h = h refl
+
+-- and the other way round
+of-or : (a t : Bool) → (a || t) ≡ true → a ≡ false → t ≡ true
+of-or a t e q = rw q at e
+
 -- ---- the test of one block
 
 module _ (K : Operations) (n : ℕ) (f : ℕ → ℕ → K .Element) where
@@ -72,7 +78,7 @@ module _ (K : Operations) (n : ℕ) (f : ℕ → ℕ → K .Element) where
     pub null : K .isNull (det K k (block f (chosen n r) (chosen n s))) ≡ true
 
   -- where there is none, the test passes
-  regular-of : (k r s : ℕ) → (Singular k r s → ⊥) → isRegularBlock K n f k r s ≡ true
+  pub regular-of : (k r s : ℕ) → (Singular k r s → ⊥) → isRegularBlock K n f k r s ≡ true
   unfolding isRegularBlock
   regular-of k r s h = decide (eqb (length (chosen n r)) k) (eqb (length (chosen n s)) k) (K .isNull d) refl refl refl
     where
@@ -94,54 +100,48 @@ module _ (K : Operations) (n : ℕ) (f : ℕ → ℕ → K .Element) where
 
   -- ---- the test of all blocks
 
-  -- a choice of columns is looked at
-  unless-or : (s step : ℕ) (t : Bool) → (s % step ≡ 1 % step → t ≡ true) → (not (eqb (s % step) (1 % step)) || t) ≡ true
-  unless-or s step t h = decide (eqb (s % step) (1 % step)) refl
-    where
-      decide : (b : Bool) → eqb (s % step) (1 % step) ≡ b → (not b || t) ≡ true
-      decide true e = h (eqb-true _ _ e)
-      decide false e = refl
-
-  or-unless : (s step : ℕ) (t : Bool) → (not (eqb (s % step) (1 % step)) || t) ≡ true → s % step ≡ 1 % step → t ≡ true
-  or-unless s step t e q = rw (eq-eqb (s % step) (1 % step) q) at e
-
   -- no block that is looked at is singular: the test passes
-  pub none-regular : (step most : ℕ)
-      → ((k r s : ℕ) → 0 < k → k ≤ most → r < 2 ^ n → s < 2 ^ n → s % step ≡ 1 % step → Singular k r s → ⊥)
-      → regularUpTo K n f step most ≡ true
-  unfolding regularUpTo regularOfSize
-  none-regular step most h =
-      each-every most _ (λ k a. each-every (2 ^ n) _ (λ r b. each-every (2 ^ n) _ (λ s c.
-      unless-or s step (isRegularBlock K n f (suc k) r s) (λ q. regular-of (suc k) r s (h (suc k) r s (zero-lt-suc k) a b c q)))))
+  pub none-regular : (least : Bool) (above most : ℕ)
+      → ((k r s : ℕ) → above < k → k ≤ most → r < 2 ^ n → s < 2 ^ n → isLookedAt least s ≡ true → Singular k r s → ⊥)
+      → regularBetween K n f least above most ≡ true
+  unfolding regularBetween regularOfSize
+  none-regular least above most h =
+      each-every most _ (λ k a. or-of (ltb k above) _ (λ z. each-every (2 ^ n) _ (λ s c. each-every (2 ^ n) _ (λ r b.
+      or-of (not (isLookedAt least s)) _ (λ q.
+      regular-of (suc k) r s (h (suc k) r s (suc-le-suc (ltb-false k above z)) a b c (not-false (isLookedAt least s) q)))))))
 
   -- and the other way round
-  pub regular-none : (step most : ℕ) → regularUpTo K n f step most ≡ true
-      → (k r s : ℕ) → 0 < k → k ≤ most → r < 2 ^ n → s < 2 ^ n → s % step ≡ 1 % step → Singular k r s → ⊥
-  unfolding regularUpTo regularOfSize
-  regular-none step most e zero r s z a b c q = absurd (not-suc-le-zero z)
-  regular-none step most e (suc k) r s z a b c q =
-      of-regular (suc k) r s (or-unless s step (isRegularBlock K n f (suc k) r s)
-      (every-each (2 ^ n) _ (every-each (2 ^ n) _ (every-each most _ e k a) r b) s c) q)
+  pub regular-none : (least : Bool) (above most : ℕ) → regularBetween K n f least above most ≡ true
+      → (k r s : ℕ) → above < k → k ≤ most → r < 2 ^ n → s < 2 ^ n → isLookedAt least s ≡ true → Singular k r s → ⊥
+  unfolding regularBetween regularOfSize
+  regular-none least above most e zero r s z a b c q = absurd (not-suc-le-zero z)
+  regular-none least above most e (suc k) r s z a b c q =
+      let sized = of-or (ltb k above) _ (every-each most _ e k a) (le-ltb k above (le-of-suc-le-suc z)) in
+      of-regular (suc k) r s
+      (of-or (not (isLookedAt least s)) _ (every-each (2 ^ n) _ (every-each (2 ^ n) _ sized s c) r b) (ap not q))
+
+  -- sizes of which every block is known to be regular need not be looked at
+  pub sizes-known : (least : Bool) (above most : ℕ)
+      → ((k r s : ℕ) → 1 ≤ k → k ≤ above → r < 2 ^ n → s < 2 ^ n → isRegularBlock K n f k r s ≡ true)
+      → regularBetween K n f least 0 most ≡ regularBetween K n f least above most
+  sizes-known least above most h =
+      same-bool _ _
+      (λ t. none-regular least above most (λ k r s z. regular-none least 0 most t k r s (omega arith)))
+      (λ t. none-regular least 0 most (λ k r s z a b c q.
+      ⊎-elim (λ l. of-regular k r s (h k r s z l b c)) (λ l. regular-none least above most t k r s l a b c q) (le-or-lt k above)))
 
 -- ---- MDS
 
--- an input that is not zero has a word that is not
-nonzero-word : (K : Operations) (x : List (K .Element)) → 0 < weight K x → (t : ℕ) × (t < length x) × (K .isNull (getD x t (K .null)) ≡ false)
-unfolding weight
-nonzero-word K [] h = absurd (not-suc-le-zero h)
-nonzero-word K (a ∷ x) h = decide (K .isNull a) refl h (nonzero-word K x)
-  where
-    decide : (b : Bool) → K .isNull a ≡ b → 0 < oneUnless b + weight K x
-        → (0 < weight K x → (t : ℕ) × (t < length x) × (K .isNull (getD x t (K .null)) ≡ false))
-        → (t : ℕ) × (t < suc (length x)) × (K .isNull (getD (a ∷ x) t (K .null)) ≡ false)
-    decide true e l rest = let r = rest (omega arith) in (suc (r .0), suc-le-suc (r .1), r .2)
-    decide false e l rest = (0, zero-lt-suc (length x), e)
+-- the choices that are looked at where all are
+all-looked-at : (s : ℕ) → isLookedAt false s ≡ true
+unfolding isLookedAt
+all-looked-at s = refl
 
 module _ (K : Operations) (L : Field K) (elements : List (K .Element)) (complete : (a : K .Element) → List·Memᴰ a elements) where
   module _ (n : ℕ) (f : ℕ → ℕ → K .Element) where
     -- an MDS matrix has no singular block
-    pub mds-regular : isMds K elements n f ≡ true → (step most : ℕ) → regularUpTo K n f step most ≡ true
-    mds-regular m step most = none-regular K n f step most (λ k r s z a b c q w. absurd (clash k r s w))
+    pub mds-regular : isMds K elements n f ≡ true → (least : Bool) (above most : ℕ) → regularBetween K n f least above most ≡ true
+    mds-regular m least above most = none-regular K n f least above most (λ k r s z a b c q. clash k r s)
       where
         clash : (k r s : ℕ) → Singular K n f k r s → ⊥
         clash k r s w =
@@ -149,81 +149,51 @@ module _ (K : Operations) (L : Field K) (elements : List (K .Element)) (complete
             omega (arith, mds-activity K L elements complete n f m (x .0) (x .1) (x .2), x .4)
 
     -- a light input gives a singular block
-    light-singular : (x : List (K .Element)) → length x ≡ n → 0 < weight K x → activity K n f x ≤ n → (step most : ℕ)
-        → weight K x ≤ most → supportMask K x % step ≡ 1 % step → regularUpTo K n f step most ≡ true → ⊥
-    light-singular x e h l step most a q t =
+    light-singular : (x : List (K .Element)) → length x ≡ n → 0 < weight K x → activity K n f x ≤ n → (least : Bool) (most : ℕ)
+        → weight K x ≤ most → isLookedAt least (supportMask K x) ≡ true → regularBetween K n f least 0 most ≡ true → ⊥
+    light-singular x e h l least most a q t =
         let w = light-block K L n f x e h l in
-        regular-none K n f step most t (weight K x) (w .0) (w .1) h a (w .2) (w .3) (rw (w .6) q)
+        regular-none K n f least 0 most t (weight K x) (w .0) (w .1) h a (w .2) (w .3) (rw (w .6) q)
         (record { lines = w .4; columns = w .5; null = w .7 })
 
     -- a matrix without singular blocks is MDS
-    pub regular-mds : 0 < n → regularUpTo K n f 1 n ≡ true → isMds K elements n f ≡ true
+    pub regular-mds : 0 < n → regularBetween K n f false 0 n ≡ true → isMds K elements n f ≡ true
     regular-mds h t =
         activity-mds K L elements complete n f h (λ x e w. ⊎-elim
-        (λ l. absurd (light-singular x e w l 1 n (omega (arith, weight-le K x)) (omega arith) t)) (λ l. l)
+        (λ l. absurd (light-singular x e w l false n (omega (arith, weight-le K x)) (all-looked-at _) t)) (λ l. l)
         (le-or-lt (activity K n f x) n))
 
     -- MDS: every square block has a nonzero determinant
-    pub mds-is-regular : 0 < n → isMds K elements n f ≡ regularUpTo K n f 1 n
-    mds-is-regular h = same-bool _ _ (λ m. mds-regular m 1 n) (regular-mds h)
+    pub mds-is-regular : 0 < n → isMds K elements n f ≡ regularBetween K n f false 0 n
+    mds-is-regular h = same-bool _ _ (λ m. mds-regular m false 0 n) (regular-mds h)
 
     -- ---- involutions
 
     -- some input with as many nonzero words, in and out, has its nonzero words in a choice of columns that is looked at
-    abbrev LookedAt : ℕ → List (K .Element) → Type 0
-    LookedAt step x =
-        (y : List (K .Element)) × (length y ≡ n) × (weight K y ≡ weight K x) × (activity K n f y ≡ activity K n f x) × (supportMask K y % step ≡ 1 % step)
+    abbrev pub LookedAt : Bool → List (K .Element) → Type 0
+    LookedAt least x =
+        (y : List (K .Element)) × (length y ≡ n) × (weight K y ≡ weight K x) × (activity K n f y ≡ activity K n f x)
+        × (isLookedAt least (supportMask K y) ≡ true)
 
-    -- of an involution blocks up to half the order suffice, where every input that is not zero has such an input
-    half-mds : 0 < n → isInvolution K elements n f ≡ true → (step most : ℕ) → n ≤ suc (most + most)
-        → ((x : List (K .Element)) → length x ≡ n → 0 < weight K x → LookedAt step x)
-        → regularUpTo K n f step most ≡ true → isMds K elements n f ≡ true
-    half-mds h i step most half looked t =
+    -- of an involution the blocks up to half the order decide, where every input has such an input
+    pub half-decides : 0 < n → isInvolution K elements n f ≡ true → (least : Bool) (most : ℕ) → n ≤ suc (most + most)
+        → ((x : List (K .Element)) → length x ≡ n → LookedAt least x)
+        → isMds K elements n f ≡ regularBetween K n f least 0 most
+    half-decides h i least most half looked =
+        same-bool _ _ (λ m. mds-regular m least 0 most) (λ t.
         activity-mds K L elements complete n f h
         (half-suffices K L elements complete n f i (λ x e w l.
-        ⊎-elim (λ g. absurd (clash x e w l g)) (λ g. g) (le-or-lt (activity K n f x) n)))
+        ⊎-elim (λ g. absurd (clash t x e w l g)) (λ g. g) (le-or-lt (activity K n f x) n))))
       where
-        clash : (x : List (K .Element)) → length x ≡ n → 0 < weight K x → weight K x + weight K x ≤ n → activity K n f x ≤ n → ⊥
-        clash x e w l g =
-            let y = looked x e w in
-            light-singular (y .0) (y .1) (omega (arith, y .2)) (omega (arith, y .3)) step most (omega (arith, y .2)) (y .4) t
+        clash : regularBetween K n f least 0 most ≡ true
+            → (x : List (K .Element)) → length x ≡ n → 0 < weight K x → weight K x + weight K x ≤ n → activity K n f x ≤ n → ⊥
+        clash t x e w l g =
+            let y = looked x e in
+            light-singular (y .0) (y .1) (omega (arith, y .2)) (omega (arith, y .3)) least most (omega (arith, y .2)) (y .4) t
 
     -- an involution is MDS exactly if its square blocks up to half the order are regular; at order 1 there is none, and it is MDS
-    pub involution-half : 0 < n → isInvolution K elements n f ≡ true → isMds K elements n f ≡ regularUpTo K n f 1 (n / 2)
-    involution-half h i =
-        same-bool _ _ (λ m. mds-regular m 1 (n / 2))
-        (half-mds h i 1 (n / 2) (omega arith) (λ x e w. (x, e, refl, refl, omega arith)))
-
-  -- ---- Hadamard involutions
-
-  module _ (k : ℕ) (row : List (K .Element)) where
-    -- an input with as many nonzero words, in and out, whose word 0 is not zero
-    front : (x : List (K .Element)) → length x ≡ 2 ^ k → 0 < weight K x → LookedAt (2 ^ k) (hadamard K row) 2 x
-    unfolding activity
-    front x e h =
-        let n : ℕ = 2 ^ k in
-        let w = nonzero-word K x h in
-        let t : ℕ = w .0 in
-        let y : List (K .Element) = moved K n (λ i. bitXor i t) x in
-        let same = translate K L k row t (omega (arith, w .1)) x e in
-        let first : getD y 0 (K .null) ≡ getD x t (K .null) =
-        getD-tabulate n (λ i. getD x (bitXor i t) (K .null)) 0 (K .null) (pow-pos k) ∙ ap (λ (i : ℕ). getD x i (K .null)) (xor-zero-l t) in (
-          y,
-          length-tabulate n (λ i. getD x (bitXor i t) (K .null)),
-          same .0,
-          ap₂ _+_ (same .0) (same .1),
-          support-first K L y (rw first (w .2)),
-        )
-
-    -- of a Hadamard involution the blocks up to half the order with column 0 suffice
-    pub half-is-enough : 1 ≤ k → sum K (2 ^ k) (λ i. getD row i (K .null)) ≡ K .one
-        → isMds K elements (2 ^ k) (hadamard K row) ≡ regularUpTo K (2 ^ k) (hadamard K row) 2 (2 ^ (k - 1))
-    half-is-enough h one =
-        same-bool _ _ (λ m. mds-regular (2 ^ k) (hadamard K row) m 2 (2 ^ (k - 1)))
-        (half-mds (2 ^ k) (hadamard K row) (pow-pos k) (sum-involution K L k row elements complete one) 2 (2 ^ (k - 1)) (omega (arith, double)) front)
-      where
-        double : 2 ^ k ≡ 2 ^ (k - 1) + 2 ^ (k - 1)
-        double = let s : k ≡ suc (k - 1) = omega arith in omega (arith, ap (λ (i : ℕ). 2 ^ i) s, pow-suc 2 (k - 1))
+    pub involution-half : 0 < n → isInvolution K elements n f ≡ true → isMds K elements n f ≡ regularBetween K n f false 0 (n / 2)
+    involution-half h i = half-decides h i false (n / 2) (omega arith) (λ x e. (x, e, refl, refl, all-looked-at _))
 
 -- ---- a map that keeps the operations keeps the tests
 
@@ -247,13 +217,15 @@ module _ (K M : Operations) (h : K .Element → M .Element) (H : Homomorphism K 
       record { lines = w .lines; columns = w .columns; null = det-block k r s (w .lines) (w .columns) ∙ w .null }
 
   -- and none is new
-  bridge-singular : (k r s : ℕ) → Singular M n g k r s → Singular K n f k r s
+  pub bridge-singular : (k r s : ℕ) → Singular M n g k r s → Singular K n f k r s
   bridge-singular k r s w =
       record { lines = w .lines; columns = w .columns; null = sym (det-block k r s (w .lines) (w .columns)) ∙ w .null }
 
   -- the test of all blocks is kept
-  pub regular-bridge : (step most : ℕ) → regularUpTo M n g step most ≡ regularUpTo K n f step most
-  regular-bridge step most =
+  pub regular-bridge : (least : Bool) (above most : ℕ) → regularBetween M n g least above most ≡ regularBetween K n f least above most
+  regular-bridge least above most =
       same-bool _ _
-      (λ t. none-regular K n f step most (λ k r s z a b c q w. regular-none M n g step most t k r s z a b c q (singular-bridge k r s w)))
-      (λ t. none-regular M n g step most (λ k r s z a b c q w. regular-none K n f step most t k r s z a b c q (bridge-singular k r s w)))
+      (λ t. none-regular K n f least above most (λ k r s z a b c q w.
+      regular-none M n g least above most t k r s z a b c q (singular-bridge k r s w)))
+      (λ t. none-regular M n g least above most (λ k r s z a b c q w.
+      regular-none K n f least above most t k r s z a b c q (bridge-singular k r s w)))

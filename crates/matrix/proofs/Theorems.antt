@@ -26,7 +26,7 @@ use Rattle.field.proofs.Sum.{sum-lt}
 use Rattle.field.proofs.Degrees.{polynomial}
 use Rattle.field.proofs.Field.{times-lt}
 use Rattle.matrix.specs.Numbers.{numbers, elements, WordsInField}
-use Rattle.matrix.specs.Steps.Regular.{regularUpTo}
+use Rattle.matrix.specs.Steps.Regular.{regularBetween}
 use Rattle.matrix.proofs.Squares as Squares
 use Rattle.matrix.proofs.Residues.{Residue, number, lift, lift-number, same-number, same-numbers, lift-words, residueList as all, residues-complete as complete, one-lt, residues, number-keeps, residues-field}
 use Rattle.matrix.proofs.Residues.{words-below, weight-carried, apply-carried, image-carried, det-carried, branch-carried, mds-carried, involution-carried, regular-carried, kernel-carried}
@@ -126,20 +126,21 @@ module _ (p : ℕ) (h : Modulus p) where
     -- ---- MDS and square blocks
 
     -- MDS: every square block has a nonzero determinant
-    pub mds-is-regular : 0 < n → isMds (numbers p) (elements p) n f ≡ regularUpTo (numbers p) n f 1 n
+    pub mds-is-regular : 0 < n → isMds (numbers p) (elements p) n f ≡ regularBetween (numbers p) n f false 0 n
     mds-is-regular g =
         mds-carried p h n f lifted entries
         ∙ Squares.mds-is-regular R L (all p) (complete p) n lifted g
-        ∙ sym (regular-carried p h n f lifted entries 1 n)
+        ∙ sym (regular-carried p h n f lifted entries false 0 n)
 
     -- an MDS matrix passes the test, whatever blocks it looks at
-    pub mds-regular : isMds (numbers p) (elements p) n f ≡ true → (step most : ℕ) → regularUpTo (numbers p) n f step most ≡ true
-    mds-regular t step most =
-        regular-carried p h n f lifted entries step most
-        ∙ Squares.mds-regular R L (all p) (complete p) n lifted (sym (mds-carried p h n f lifted entries) ∙ t) step most
+    pub mds-regular : isMds (numbers p) (elements p) n f ≡ true → (least : Bool) (above most : ℕ)
+        → regularBetween (numbers p) n f least above most ≡ true
+    mds-regular t least above most =
+        regular-carried p h n f lifted entries least above most
+        ∙ Squares.mds-regular R L (all p) (complete p) n lifted (sym (mds-carried p h n f lifted entries) ∙ t) least above most
 
     -- a matrix that passes it with all blocks is MDS
-    pub regular-mds : 0 < n → regularUpTo (numbers p) n f 1 n ≡ true → isMds (numbers p) (elements p) n f ≡ true
+    pub regular-mds : 0 < n → regularBetween (numbers p) n f false 0 n ≡ true → isMds (numbers p) (elements p) n f ≡ true
     regular-mds g t = mds-is-regular g ∙ t
 
     -- ---- the branch number
@@ -202,11 +203,11 @@ module _ (p : ℕ) (h : Modulus p) where
 
     -- an involution, Hadamard or not, is MDS exactly if its square blocks up to half the order have nonzero determinants
     pub involution-half : 0 < n → isInvolution (numbers p) (elements p) n f ≡ true
-        → isMds (numbers p) (elements p) n f ≡ regularUpTo (numbers p) n f 1 (n / 2)
+        → isMds (numbers p) (elements p) n f ≡ regularBetween (numbers p) n f false 0 (n / 2)
     involution-half g t =
         mds-carried p h n f lifted entries
         ∙ Squares.involution-half R L (all p) (complete p) n lifted g (sym involution-is ∙ t)
-        ∙ sym (regular-carried p h n f lifted entries 1 (n / 2))
+        ∙ sym (regular-carried p h n f lifted entries false 0 (n / 2))
 
     twice-carried : (x : List (Residue p))
         → map (number p) (apply R n lifted (apply R n lifted x)) ≡ apply (numbers p) n f (apply (numbers p) n f (map (number p) x))

@@ -1,28 +1,27 @@
 // Square blocks of a matrix: the determinant, and the tests that no square block is singular.
 
 ghost use mathlib.Core.Path.{_≡_};
+ghost use mathlib.Core.Bool.{false};
 ghost use mathlib.Core.List.{[]};
-ghost use Prim.Native.Nat.{_-_, _≤_, _<_};
+ghost use Prim.Native.Nat.{_-_, _^_, _≤_, _<_};
 ghost use lib.ListN.{length, getD, replicate};
 ghost use Rattle.algebra.specs.Matrix.{skip, without, det, chosen, block};
-ghost use Rattle.field.specs.Polynomial.{Modulus};
+ghost use Rattle.field.specs.Polynomial.{_⊕_, Modulus, degree, product, Products};
 ghost use Rattle.matrix.specs.Numbers.{numbers, entry, InField};
 ghost use Rattle.matrix.specs.Steps.Blocks.{filled, framed};
-ghost use Rattle.matrix.specs.Steps.Choice.{nextChoice};
-ghost use Rattle.matrix.specs.Steps.Regular.{regularOfSize, regularUpTo};
+ghost use Rattle.matrix.specs.Steps.Choice.{isLookedAt, nextChoice};
+ghost use Rattle.matrix.specs.Steps.Regular.{regularOfSize, regularBetween};
 
 // The line without column j: what stands behind column j moves up, and 0 behind it.
 fn without_column(line: [u8; 8], j: usize) -> [u8; 8]
-    requires { ⌜ j ≤ 7 ⌝ }
     ensures { λ r. ⌜ r ≡ filled 0 (λ k. getD line (skip j k) 0) 7 ⌝ }
 {
-    let mut r = line;
-    let mut k = j;
+    let mut r = [0; 8];
+    let mut k = 0;
     while k < 7 {
-        r[k] = line[k + 1];
+        r[k] = if k < j { line[k] } else { line[k + 1] };
         k += 1;
     }
-    r[7] = 0;
     r
 }
 
@@ -41,9 +40,37 @@ pub fn without(block: [[u8; 8]; 8], n: usize, j: usize) -> [[u8; 8]; 8]
     r
 }
 
-// The determinant, expanded along the first line. That of the empty block is 1, and that of a single entry the entry.
-pub fn determinant(p: u16, block: [[u8; 8]; 8], n: usize) -> u8
-    requires { ⌜ Modulus p × (n ≤ 8) × InField p n n block ⌝ }
+// The determinant of two lines in columns i and j.
+fn two_by_two(
+    p: u16,
+    products: &[u8; 65536],
+    upper: [u8; 8],
+    lower: [u8; 8],
+    i: usize,
+    j: usize,
+) -> u8
+    requires { ⌜ (i < 8) × (j < 8) × (getD upper i 0 < 2 ^ degree p) × (getD upper j 0 < 2 ^ degree p) × Products p (now products) ⌝ }
+    ensures { λ r. ⌜ r ≡ product p (getD upper i 0) (getD lower j 0) ⊕ product p (getD upper j 0) (getD lower i 0) ⌝ }
+{
+    field::times(p, products, upper[i], lower[j]) ^ field::times(p, products, upper[j], lower[i])
+}
+
+// The determinant of a block of size 3, along the first line.
+fn three_by_three(p: u16, products: &[u8; 65536], block: [[u8; 8]; 8]) -> u8
+    requires { ⌜ InField p 3 3 block × Products p (now products) ⌝ }
+    ensures { λ r. ⌜ r ≡ det (numbers p) 3 (entry block) ⌝ }
+{
+    let first = two_by_two(p, products, block[1], block[2], 1, 2);
+    let second = two_by_two(p, products, block[1], block[2], 0, 2);
+    let third = two_by_two(p, products, block[1], block[2], 0, 1);
+    let r = field::times(p, products, block[0][0], first);
+    let s = field::times(p, products, block[0][1], second);
+    r ^ s ^ field::times(p, products, block[0][2], third)
+}
+
+// The determinant, expanded along the first line; that of the empty block is 1. Sizes up to 3 are done directly.
+pub fn determinant(p: u16, products: &[u8; 65536], block: [[u8; 8]; 8], n: usize) -> u8
+    requires { ⌜ Modulus p × (n ≤ 8) × InField p n n block × Products p (now products) ⌝ }
     ensures { λ r. ⌜ r ≡ det (numbers p) n (entry block) ⌝ }
 {
     if n == 0 {
@@ -52,19 +79,25 @@ pub fn determinant(p: u16, block: [[u8; 8]; 8], n: usize) -> u8
     if n == 1 {
         return block[0][0];
     }
-    first_line_sum(p, block, n)
+    if n == 2 {
+        return two_by_two(p, products, block[0], block[1], 0, 1);
+    }
+    if n == 3 {
+        return three_by_three(p, products, block);
+    }
+    first_line_sum(p, products, block, n)
 }
 
 // The sum over the first line: each entry times the determinant of the block left without that line and column.
-fn first_line_sum(p: u16, block: [[u8; 8]; 8], n: usize) -> u8
-    requires { ⌜ Modulus p × (1 ≤ n) × (n ≤ 8) × InField p n n block ⌝ }
+fn first_line_sum(p: u16, products: &[u8; 65536], block: [[u8; 8]; 8], n: usize) -> u8
+    requires { ⌜ Modulus p × (1 ≤ n) × (n ≤ 8) × InField p n n block × Products p (now products) ⌝ }
     ensures { λ r. ⌜ r ≡ det (numbers p) n (entry block) ⌝ }
 {
     let mut r: u8 = 0;
     let mut j = 0;
     while j < n {
-        let minor = determinant(p, without(block, n, j), n - 1);
-        r ^= field::product(p, block[0][j], minor);
+        let minor = determinant(p, products, without(block, n, j), n - 1);
+        r ^= field::times(p, products, block[0][j], minor);
         j += 1;
     }
     r
@@ -122,50 +155,101 @@ pub fn chosen_columns(m: [[u8; 8]; 8], n: usize, columns: u16) -> [[u8; 8]; 8]
     r
 }
 
-// The next choice of k lines or columns: the first of the masks from, from + step, .. that has k ones or is not below end.
-fn next_choice(from: u16, step: u16, end: u16, k: usize) -> u16
-    requires { ⌜ (1 ≤ step) × (step ≤ 2) × (end ≤ 256) ⌝ }
-    ensures { λ r. ⌜ r ≡ nextChoice from step end k ⌝ }
+// The next choice of as many lines or columns, in ascending order of the masks: the lowest group of ones is moved up by its highest
+// one, and the others of it go to the lowest places.
+fn next_choice(mask: u16) -> u16
+    requires { ⌜ (1 ≤ mask) × (mask < 256) ⌝ }
+    ensures { λ r. ⌜ r ≡ nextChoice false mask ⌝ }
 {
-    let mut r = from;
-    while r < end {
-        if u16::count_ones(r) as usize == k {
+    let low = mask & (!mask + 1);
+    let next = mask + low;
+    next | ((mask ^ next) / low / 4)
+}
+
+// The choices below 256 that no translation of the places makes smaller: choice s is digit s % 32 of number s / 32.
+const LEAST: [u32; 8] = [
+    4294869227,
+    2967994368,
+    2363490304,
+    3900738240,
+    0,
+    0,
+    0,
+    2147483648,
+];
+
+// Whether a choice of columns is looked at: all of them, or only those that no translation makes smaller.
+fn is_looked_at(least: bool, mask: u16) -> bool
+    requires { ⌜ mask < 256 ⌝ }
+    ensures { λ r. ⌜ r ≡ isLookedAt least mask ⌝ }
+{
+    if least {
+        LEAST[mask as usize / 32] >> (mask % 32) & 1 == 1
+    } else {
+        true
+    }
+}
+
+// The next choice of as many columns that is looked at, or one of 256 or more.
+fn next_columns(least: bool, mask: u16) -> u16
+    requires { ⌜ (1 ≤ mask) × (mask < 256) ⌝ }
+    ensures { λ r. ⌜ r ≡ nextChoice least mask ⌝ }
+{
+    let mut r = next_choice(mask);
+    while r < 256 {
+        if is_looked_at(least, r) {
             return r;
         }
-        r += step;
+        r = next_choice(r);
     }
     r
 }
 
-// Whether every square block of size k is regular. Of the choices of columns only 1, 1 + step, .. are looked at.
-pub fn regular_of_size(p: u16, m: [[u8; 8]; 8], n: usize, step: u16, k: usize) -> bool
-    requires { ⌜ Modulus p × (n ≤ 8) × (1 ≤ k) × (k ≤ n) × (1 ≤ step) × (step ≤ 2) × InField p n n m ⌝ }
-    ensures { λ r. ⌜ r ≡ regularOfSize (numbers p) n (entry m) step k ⌝ }
+// Whether every square block of size k is regular, of those whose columns are looked at. The first choice is one of them.
+pub fn regular_of_size(
+    p: u16,
+    products: &[u8; 65536],
+    m: [[u8; 8]; 8],
+    n: usize,
+    least: bool,
+    k: usize,
+) -> bool
+    requires { ⌜ Modulus p × (n ≤ 8) × (1 ≤ k) × (k ≤ n) × InField p n n m × Products p (now products) ⌝ }
+    ensures { λ r. ⌜ r ≡ regularOfSize (numbers p) n (entry m) least k ⌝ }
 {
     let end: u16 = 1 << n;
-    let mut lines = next_choice(1, 1, end, k);
-    'choices: while lines < end {
-        let block = chosen_lines(m, lines);
-        let mut columns = next_choice(1, step, end, k);
-        while columns < end {
-            if determinant(p, chosen_columns(block, k, columns), k) == 0 {
+    let first: u16 = (1 << k) - 1;
+    let mut columns = first;
+    'choices: while columns < end {
+        let narrow = chosen_columns(m, n, columns);
+        let mut lines = first;
+        while lines < end {
+            if determinant(p, products, chosen_lines(narrow, lines), k) == 0 {
                 break 'choices;
             }
-            columns = next_choice(columns + step, step, end, k);
+            lines = next_choice(lines);
         }
-        lines = next_choice(lines + 1, 1, end, k);
+        columns = next_columns(least, columns);
     }
-    end <= lines
+    end <= columns
 }
 
-// The same for the sizes 1 to most, the small ones first.
-pub fn regular_up_to(p: u16, m: [[u8; 8]; 8], n: usize, step: u16, most: usize) -> bool
-    requires { ⌜ Modulus p × (n ≤ 8) × (most ≤ n) × (1 ≤ step) × (step ≤ 2) × InField p n n m ⌝ }
-    ensures { λ r. ⌜ r ≡ regularUpTo (numbers p) n (entry m) step most ⌝ }
+// The same for the sizes above `above` up to `most`, the small ones first.
+pub fn regular_between(
+    p: u16,
+    products: &[u8; 65536],
+    m: [[u8; 8]; 8],
+    n: usize,
+    least: bool,
+    above: usize,
+    most: usize,
+) -> bool
+    requires { ⌜ Modulus p × (n ≤ 8) × (most ≤ n) × InField p n n m × Products p (now products) ⌝ }
+    ensures { λ r. ⌜ r ≡ regularBetween (numbers p) n (entry m) least above most ⌝ }
 {
-    let mut k = 0;
+    let mut k = above;
     while k < most {
-        if !regular_of_size(p, m, n, step, k + 1) {
+        if !regular_of_size(p, products, m, n, least, k + 1) {
             return false;
         }
         k += 1;

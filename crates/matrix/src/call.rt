@@ -81,6 +81,35 @@ fn matrix_fault(p: u32, m: [[u8; 8]; 8], n: u32) -> Outcome
     first_fault(p, n == 0, m, n, [0u8; 8], n)
 }
 
+// ---- with a table of products of their own
+
+// The determinant.
+fn determinant_of(p: u16, m: [[u8; 8]; 8], n: usize) -> u8
+    requires { ⌜ Modulus p × (n ≤ 8) × InField p n n m ⌝ }
+    ensures { λ r. ⌜ r ≡ det (numbers p) n (entry m) ⌝ }
+{
+    let products = field::products(p);
+    block::determinant(p, &products, m, n)
+}
+
+// The branch number.
+fn branch_number_of(p: u16, m: [[u8; 8]; 8], n: usize) -> usize
+    requires { ⌜ Modulus p × (1 ≤ n) × (n ≤ 8) × InField p n n m ⌝ }
+    ensures { λ r. ⌜ r ≡ branchNumber (numbers p) (elements p) n (entry m) ⌝ }
+{
+    let products = field::products(p);
+    branch::branch_number(p, &products, m, n)
+}
+
+// Whether every square block has a nonzero determinant.
+fn is_mds(p: u16, m: [[u8; 8]; 8], n: usize) -> bool
+    requires { ⌜ Modulus p × (1 ≤ n) × (n ≤ 8) × InField p n n m ⌝ }
+    ensures { λ r. ⌜ r ≡ isMds (numbers p) (elements p) n (entry m) ⌝ }
+{
+    let products = field::products(p);
+    block::regular_between(p, &products, m, n, false, 0, n)
+}
+
 // ---- calls that yield a number
 
 // 1 for yes, 0 for no.
@@ -96,7 +125,7 @@ pub fn checked_determinant(p: u32, m: [[u8; 8]; 8], n: u32) -> Outcome
 {
     match first_fault(p, false, m, n, [0u8; 8], n) {
         Outcome::Refused(r) => Outcome::Refused(r),
-        Outcome::Value(_) => Outcome::Value(block::determinant(p as u16, m, n as usize) as u32),
+        Outcome::Value(_) => Outcome::Value(determinant_of(p as u16, m, n as usize) as u32),
     }
 }
 
@@ -106,7 +135,7 @@ pub fn checked_branch_number(p: u32, m: [[u8; 8]; 8], n: u32) -> Outcome
 {
     match matrix_fault(p, m, n) {
         Outcome::Refused(r) => Outcome::Refused(r),
-        Outcome::Value(_) => Outcome::Value(branch::branch_number(p as u16, m, n as usize) as u32),
+        Outcome::Value(_) => Outcome::Value(branch_number_of(p as u16, m, n as usize) as u32),
     }
 }
 
@@ -116,13 +145,7 @@ pub fn checked_mds(p: u32, m: [[u8; 8]; 8], n: u32) -> Outcome
 {
     match matrix_fault(p, m, n) {
         Outcome::Refused(r) => Outcome::Refused(r),
-        Outcome::Value(_) => Outcome::Value(yes_no(block::regular_up_to(
-            p as u16,
-            m,
-            n as usize,
-            1,
-            n as usize,
-        ))),
+        Outcome::Value(_) => Outcome::Value(yes_no(is_mds(p as u16, m, n as usize))),
     }
 }
 
@@ -235,7 +258,7 @@ pub fn check(p: u16, m: [[u8; 8]; 8], n: usize) -> Found
     requires { ⌜ Modulus p × (1 ≤ n) × (n ≤ 8) × InField p n n m ⌝ }
     ensures { λ r. ⌜ checkFound r ≡ checkOf p n (entry m) ⌝ }
 {
-    let branch = branch::branch_number(p, m, n);
+    let branch = branch_number_of(p, m, n);
     Found {
         branch: branch as u32,
         mds: yes_no(branch == n + 1),

@@ -20,7 +20,8 @@ use Rattle.field.proofs.Completeness.{table-sound}
 use Rattle.matrix.specs.Numbers.{numbers, WordsInField}
 use Rattle.matrix.specs.Counts.{elementCount, total}
 use Rattle.field.specs.Steps.{everyBelow}
-use Rattle.matrix.specs.Steps.Regular.{isRegularBlock, regularOfSize, regularUpTo}
+use Rattle.matrix.specs.Steps.Choice.{translated, isLeast, isLookedAt}
+use Rattle.matrix.specs.Steps.Regular.{isRegularBlock, regularOfSize, regularBetween}
 use Rattle.search.specs.Lightest.{member, among, ascending, rowsOver, Earlier, differs, agrees, Best, nothing, found, lighter, keep, keepAll, lightest}
 use Rattle.search.specs.Steps.IndexMaps.{canonical}
 use Rattle.search.specs.Shape.{isGood, hadamardShape}
@@ -151,9 +152,9 @@ canonical-ascends r l e = rising r (λ i k. at i (omega arith) (sym (canonical-f
 abbrev sumsToOne : ℕ → List ℕ → Bool
 sumsToOne p r = eqb (sum (numbers p) 4 (λ i. getD r i 0)) 1
 
--- its blocks of size 1 and 2 with column 0 are regular
+-- its blocks of size 1 and 2 whose columns no translation makes smaller are regular
 abbrev blocksPass : ℕ → List ℕ → Bool
-blocksPass p r = regularUpTo (numbers p) 4 (hadamard (numbers p) r) 2 2
+blocksPass p r = regularBetween (numbers p) 4 (hadamard (numbers p) r) true 0 2
 
 -- the row kept after r; the tests are made one after the other, each only where the one before passed
 unfoldable pub tryRow : ℕ → Best → List ℕ → Best
@@ -228,5 +229,5 @@ pub over-nineteen : (lightestRow hadamardShape 19 4 (1 ∷ 2 ∷ 4 ∷ 8 ∷ [])
     × (lightestRow hadamardShape 19 4 (1 ∷ 4 ∷ 9 ∷ []) ≡ nothing)
     × (lightestRow hadamardShape 19 4 (1 ∷ 4 ∷ 9 ∷ 13 ∷ []) ≡ found (1 ∷ 4 ∷ 9 ∷ 13 ∷ []))
     × (lightestRow hadamardShape 19 4 (1 ∷ 2 ∷ 3 ∷ 4 ∷ 5 ∷ 6 ∷ 7 ∷ 8 ∷ 9 ∷ 10 ∷ 11 ∷ 12 ∷ 13 ∷ 14 ∷ 15 ∷ []) ≡ found (1 ∷ 4 ∷ 9 ∷ 13 ∷ []))
-unfolding computed tryAll tryRow picks ascending upTo among member tabulate lighter keyOf elementCount total sum hadamard regularUpTo regularOfSize isRegularBlock everyBelow det without skip block chosen placesFrom xorCount onesInColumns ones onesIn product rem reduce degree overDigits digitsWithin _⊗_ _⊕_
+unfolding computed tryAll tryRow picks ascending upTo among member tabulate lighter keyOf elementCount total sum hadamard regularBetween regularOfSize isLookedAt isLeast translated isRegularBlock everyBelow det without skip block chosen placesFrom xorCount onesInColumns ones onesIn product rem reduce degree overDigits digitsWithin _⊗_ _⊕_
 over-nineteen = (by-computing _ _ refl, by-computing _ _ refl, by-computing _ _ refl, by-computing _ _ refl, by-computing _ _ refl)

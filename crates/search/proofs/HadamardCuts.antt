@@ -1,43 +1,46 @@
--- The cuts of the walk over Hadamard rows: what the code tests of a letter, of the last letter and of a whole row, and that the lightest
--- row is the lightest of those that are tried.
+-- The cuts of the walk over Hadamard rows: what the code tests of a letter, of the last letter and of a whole row, what the tests of a
+-- row's prefixes say of its small blocks, and that the lightest row is the lightest of those that are tried.
 -- Assumes nothing.
 use mathlib.Core.Path.{_≡_, refl, sym, ap, subst, _∙_}
 use mathlib.Core.Logic.{inr, ⊎-elim}
-use mathlib.Core.Bool.{Bool, true, false, not, _&&_, and-assoc, and-true, and-false}
-use mathlib.Core.List.{List, [], _∷_, foldl, foldl-append, List·Memᴰ}
+use mathlib.Core.Bool.{Bool, true, false, not, _&&_, and-assoc, and-true, and-false, true≢false}
+use mathlib.Core.List.{List, [], _∷_, _++_, foldl, foldl-append, List·Memᴰ}
 use Prim.Native.Nat.{ℕ, zero, suc, _+_, _-_, _/_, _^_, _≤_, _<_}
 use native.Mathlib.Nat.{pos-of-ne-zero}
+use native.Mathlib.Decide.{decLt}
 use native.Mathlib.Numerals.{add-one}
 use native.Mathlib.Omega.{arith}
 use lib.Bits.{bitXor, xor-lt}
 use lib.Dec.{eqb, ltb}
-use lib.ListN.{length, getD, take}
+use lib.ListN.{length, getD, take, set}
 use lib.Seq.{take-suc, length-take-le, getD-take}
-use borrow.Author.Tests.{ltb-true, lt-ltb, le-ltb, eqb-true, eq-eqb, ne-eqb}
-use Rattle.algebra.specs.Matrix.{sum, hadamard, words}
+use borrow.Author.Tests.{ltb-true, lt-ltb, le-ltb, eqb-true, eq-eqb, ne-eqb, not-true}
+use Rattle.algebra.specs.Matrix.{sum, hadamard, isMds, words}
 use Rattle.algebra.proofs.Involution.{and-left, and-right}
 use Rattle.algebra.proofs.Sums.{sum-cong}
 use Rattle.algebra.proofs.Symmetry.{same-bool}
-use Rattle.field.specs.Polynomial.{_⊕_, Modulus, degree}
-use Rattle.field.proofs.Sum.{sum-cancel}
-use Rattle.matrix.specs.Numbers.{numbers, entry, InField, WordsInField, HalvingOrder}
+use Rattle.field.specs.Polynomial.{_⊕_, Modulus, degree, product}
+use Rattle.field.proofs.Sum.{sum-comm, sum-cancel}
+use Rattle.matrix.specs.Numbers.{numbers, elements, entry, InField, WordsInField, HalvingOrder}
 use Rattle.field.specs.Steps.{everyBelow}
 use Rattle.matrix.specs.Steps.Blocks.{framed}
 use Rattle.matrix.proofs.Filled.{entry-of, xor-sum}
-use Rattle.matrix.specs.Steps.Regular.{regularUpTo}
-use Rattle.matrix.proofs.Squares.{every-each, each-every}
+use Rattle.matrix.specs.Steps.Regular.{isRegularBlock, regularBetween}
+use Rattle.matrix.proofs.Squares.{every-each, each-every, sizes-known}
+use Rattle.matrix.proofs.Planes.{plane-sum, plane-products, one-regular, two-regular}
 use Rattle.search.specs.Lightest.{nothing, member, ascending, lightest}
 use Rattle.search.specs.Shape.{isGood, hadamardShape}
 use Rattle.search.specs.Answer.{keyOf, lightestRow}
-use Rattle.search.specs.Steps.Hadamard.{SearchOrder, placeBefore, mayStand, lastLetter, hadamardCuts}
+use Rattle.search.specs.Steps.Hadamard.{SearchOrder, placeBefore, isNext, planesPass, mayStand, lastLetter, hadamardCuts}
 use Rattle.search.specs.Steps.IndexMaps.{canonical}
-use Rattle.search.specs.Steps.Prefix.{passes, tried}
+use Rattle.search.specs.Steps.Prefix.{passes, AllStand, tried}
 use Rattle.search.proofs.Rows.{mem-at, mem-words, member-mem, getD-mem, not-passed}
 use Rattle.search.proofs.Walk.{same-good}
 use Rattle.search.proofs.IndexMaps.{canonical-four, canonical-eight}
 use Rattle.search.proofs.LetterCounts.{member-snoc}
-use Rattle.search.proofs.HadamardRows.{power, good-sum, good-different, good-regular, regular-same, word-in-field, canonical-lightest}
-use Rattle.search.proofs.Pruning.{OnlyLast, tried-stands}
+use Rattle.search.proofs.HadamardRows.{Power, power, good-mds, good-sum, good-positive, good-different, good-regular, regular-same, word-in-field, canonical-lightest}
+use Rattle.search.proofs.Pruning.{OnlyLast, stands-front, tried-stands}
+use Rattle.search.proofs.PlaneCuts.{fourth, SingularPlane, planeSum, plane-regular, planes-stored, planes-own, planes-each, planes-hold}
 
 -- ---- the orders
 
@@ -82,39 +85,126 @@ tests n o row = ⊎-elim (λ (e : n ≡ 4). rw e (tests-four row)) (λ (e : n �
 pub place-inside : (d : ℕ) → (d ≡ 0 → ⊥) → d < 8 → placeBefore d < 8
 place-inside d e l = omega (arith, place-lt d (pos-of-ne-zero e) l)
 
+-- an entry is a member of the prefix
+member-at : (row : List ℕ) (d a : ℕ) → d ≤ length row → (i : ℕ) → i < d → getD row i 0 ≡ a → member a (take d row) ≡ true
+member-at row d a fits i h e =
+    let there : List·Memᴰ (getD (take d row) i 0) (take d row) = getD-mem (take d row) i 0 (omega (arith, length-take-le d row fits)) in
+    member-mem a (take d row) .1 (subst (λ (x : ℕ). List·Memᴰ x (take d row)) (getD-take d row i 0 h ∙ e) there)
+
 -- nothing stands before it
-pub stand-first : (row : List ℕ) (d a : ℕ) → d ≡ 0 → true ≡ mayStand (take d row) a
-unfolding mayStand member
-stand-first row d a e = rw e refl
+pub next-first : (row : List ℕ) (d a : ℕ) → d ≡ 0 → ltb 0 a ≡ isNext (take d row) a
+unfolding isNext member
+next-first row d a e = rw (e, and-true)
 
 module _ (row : List ℕ) (d a : ℕ) (fits : d ≤ length row) (l : d < 8) (some : 0 < d) where
   -- the test, of the array
-  stand-is : mayStand (take d row) a ≡ (ltb (getD row (placeBefore d) 0) a && not (member a (take d row)))
-  unfolding mayStand
-  stand-is =
-      rw (length-take-le d row fits, getD-take d row (placeBefore d) 0 (place-lt d some l), ne-eqb d 0 (λ (e : d ≡ 0). omega arith))
+  next-is : isNext (take d row) a ≡ (ltb (getD row (placeBefore d) 0) a && not (member a (take d row)))
+  unfolding isNext
+  next-is = rw (length-take-le d row fits, getD-take d row (placeBefore d) 0 (place-lt d some l))
 
   -- it is too small
-  pub stand-low : a ≤ getD row (placeBefore d) 0 → false ≡ mayStand (take d row) a
-  stand-low h = sym (stand-is ∙ ap (λ t. t && not (member a (take d row))) (le-ltb (getD row (placeBefore d) 0) a h))
+  pub next-low : a ≤ getD row (placeBefore d) 0 → false ≡ isNext (take d row) a
+  next-low h = sym (next-is ∙ ap (λ t. t && not (member a (take d row))) (le-ltb (getD row (placeBefore d) 0) a h))
 
   -- it stands already
-  pub stand-equal : (i : ℕ) → i < d → getD row i 0 ≡ a → false ≡ mayStand (take d row) a
-  stand-equal i h e =
-      let there : List·Memᴰ a (take d row) = subst (λ (x : ℕ). List·Memᴰ x (take d row)) (getD-take d row i 0 h ∙ e) (getD-mem (take d row) i 0 (omega (arith, length-take-le d row fits))) in
-      sym (stand-is ∙ (rw (member-mem a (take d row) .1 there, and-false)))
+  pub next-equal : (i : ℕ) → i < d → getD row i 0 ≡ a → false ≡ isNext (take d row) a
+  next-equal i h e = sym (next-is ∙ (rw (member-at row d a fits i h e, and-false)))
 
   -- it passes
-  pub stand-passes : getD row (placeBefore d) 0 < a → member a (take d row) ≡ false → true ≡ mayStand (take d row) a
-  stand-passes h e = sym (stand-is ∙ (rw (e, lt-ltb (getD row (placeBefore d) 0) a h)))
+  pub next-passes : getD row (placeBefore d) 0 < a → member a (take d row) ≡ false → true ≡ isNext (take d row) a
+  next-passes h e = sym (next-is ∙ (rw (e, lt-ltb (getD row (placeBefore d) 0) a h)))
 
   -- where it passes, it is larger
-  stand-larger : mayStand (take d row) a ≡ true → getD row (placeBefore d) 0 < a
-  stand-larger e = ltb-true _ _ (and-left (ltb (getD row (placeBefore d) 0) a) _ (sym stand-is ∙ e))
+  next-larger : isNext (take d row) a ≡ true → getD row (placeBefore d) 0 < a
+  next-larger e = ltb-true _ _ (and-left (ltb (getD row (placeBefore d) 0) a) _ (sym next-is ∙ e))
 
 -- one entry more was looked at
-pub stand-turn : (row : List ℕ) (a i : ℕ) → i < length row → member a (take i row) ≡ false → (getD row i 0 ≡ a → ⊥) → member a (take (i + 1) row) ≡ false
-stand-turn row a i l e f = rw (add-one, take-suc row i 0 l, member-snoc, e) (ne-eqb a (getD row i 0) (λ q. f (sym q)))
+pub next-turn : (row : List ℕ) (a i : ℕ) → i < length row → member a (take i row) ≡ false → (getD row i 0 ≡ a → ⊥) → member a (take (i + 1) row) ≡ false
+next-turn row a i l e f = rw (add-one, take-suc row i 0 l, member-snoc, e) (ne-eqb a (getD row i 0) (λ q. f (sym q)))
+
+module _ (q : List ℕ) (a : ℕ) (t : isNext q a ≡ true) where
+  -- a letter that comes next is not 0
+  next-positive : 0 < a
+  unfolding isNext
+  next-positive = omega (arith, ltb-true _ a (and-left (ltb (getD q (placeBefore (length q)) 0) a) (not (member a q)) t))
+
+  -- and none of the entries
+  next-new : member a q ≡ false
+  unfolding isNext
+  next-new = not-true (member a q) (and-right (ltb (getD q (placeBefore (length q)) 0) a) (not (member a q)) t)
+
+-- ---- whether a letter may stand
+
+-- it does not come next
+pub stand-not-next : (p n : ℕ) (q : List ℕ) (a : ℕ) → isNext q a ≡ false → mayStand p n q a ≡ false
+unfolding mayStand
+stand-not-next p n q a e = rw e
+
+module _ (p n : ℕ) (row : List ℕ) (d : ℕ) (fits : d < length row) where
+  -- the test of a letter, of the array in which it is stored
+  stand-stored : (a : ℕ) → mayStand p n (take d row) a ≡ (isNext (take d row) a && planesPass p n (set row d a) d)
+  unfolding mayStand
+  stand-stored a =
+      ap (λ (m : ℕ). isNext (take d row) a && planesPass p n (take d row ++ a ∷ []) m) (length-take-le d row (omega arith))
+      ∙ ap (λ t. isNext (take d row) a && t) (planes-stored p n row d fits a)
+
+  -- a plane does not pass
+  pub stand-not-planes : (a : ℕ) → planesPass p n (set row d a) d ≡ false → mayStand p n (take d row) a ≡ false
+  stand-not-planes a e = stand-stored a ∙ (rw (e, and-false))
+
+  -- it may stand
+  pub stand-both : (a : ℕ) → isNext (take d row) a ≡ true → planesPass p n (set row d a) d ≡ true → mayStand p n (take d row) a ≡ true
+  stand-both a e f = stand-stored a ∙ (rw (e, f))
+
+  -- the test of an entry
+  stand-own : mayStand p n (take d row) (getD row d 0) ≡ (isNext (take d row) (getD row d 0) && planesPass p n row d)
+  unfolding mayStand
+  stand-own =
+      ap (λ (m : ℕ). isNext (take d row) (getD row d 0) && planesPass p n (take d row ++ getD row d 0 ∷ []) m) (length-take-le d row (omega arith))
+      ∙ ap (λ t. isNext (take d row) (getD row d 0) && t) (planes-own p n row d fits)
+
+-- ---- a row whose entries may all stand
+
+-- what the tests of its prefixes say of a row: no entry is 0, no two are equal, and no plane has two equal products; by this its
+-- blocks of sizes 1 and 2 are regular
+pub record SmallBlocks (p n : ℕ) (row : List ℕ) : Type 0 where
+  pub positive : (i : ℕ) → i < n → 0 < getD row i 0
+  pub different : (i j : ℕ) → i < n → j < n → getD row i 0 ≡ getD row j 0 → i ≡ j
+  pub products : (a b d : ℕ) → a < b → b < d → d < n → bitXor (bitXor a b) d < d
+      → product p (getD row a 0) (getD row b 0) ≡ product p (getD row (bitXor (bitXor a b) d) 0) (getD row d 0) → ⊥
+
+module _ (p n : ℕ) (row : List ℕ) (fits : n ≤ length row) (all : AllStand (hadamardCuts p n) n row) where
+  -- each entry comes next by the order
+  all-next : (d : ℕ) → d < n → isNext (take d row) (getD row d 0) ≡ true
+  all-next d l = and-left _ (planesPass p n row d) (sym (stand-own p n row d (omega arith)) ∙ all d l)
+
+  -- and its planes pass
+  all-planes : (d : ℕ) → d < n → planesPass p n row d ≡ true
+  all-planes d l = and-right (isNext (take d row) (getD row d 0)) _ (sym (stand-own p n row d (omega arith)) ∙ all d l)
+
+  -- no entry is one of those before it
+  all-new : (i j : ℕ) → i < j → j < n → getD row i 0 ≡ getD row j 0 → ⊥
+  all-new i j l k e =
+      true≢false (sym (member-at row j (getD row j 0) (omega arith) i l e) ∙ next-new (take j row) (getD row j 0) (all-next j k))
+
+  pub small-blocks : SmallBlocks p n row
+  small-blocks =
+      record {
+        positive = λ i l. next-positive (take i row) (getD row i 0) (all-next i l);
+        different = λ i j l k e. elim (decLt i j) [
+          | yes m ↦ absurd (all-new i j m k e)
+          | no m ↦ elim (decLt j i) [
+            | yes q ↦ absurd (all-new j i q l (sym e))
+            | no q ↦ omega arith
+          ]
+        ];
+        products = λ a b d l m k f. plane-regular p n row d b a f (planes-each p n row d (all-planes d k) b a l m);
+      }
+
+-- the same of the first entries of an array
+pub front-blocks : (p n : ℕ) (row : List ℕ) → n ≤ length row → AllStand (hadamardCuts p n) n row → SmallBlocks p n (take n row)
+front-blocks p n row fits all =
+    small-blocks p n (take n row) (omega (arith, length-take-le n row fits)) (stands-front (hadamardCuts p n) n row all)
 
 -- ---- the last letter
 
@@ -144,18 +234,50 @@ module _ (row : List ℕ) (n : ℕ) (some : 0 < n) (fits : n ≤ length row) whe
       eq-eqb _ _ (sym (sum-cancel start (getD row (n - 1) 0)) ∙ ap (λ x. start ⊕ x) (sym xor-more ∙ e))
 
 -- no other letter may be the last
-pub only-last : (q : List ℕ) (a : ℕ) → a ≡ lastLetter q → OnlyLast hadamardCuts q a
-only-last q a e = record { may = eq-eqb a (lastLetter q) e; only = λ b f. eqb-true b (lastLetter q) f ∙ sym e }
+pub only-last : (p n : ℕ) (q : List ℕ) (a : ℕ) → a ≡ lastLetter q → OnlyLast (hadamardCuts p n) q a
+only-last p n q a e = record { may = eq-eqb a (lastLetter q) e; only = λ b f. eqb-true b (lastLetter q) f ∙ sym e }
+
+-- ---- the planes of a good row
+
+-- the fourth index: it makes the exclusive or 0, and it is none of the others
+fourth-makes : (a b d : ℕ) → bitXor (bitXor a b) (fourth d b a) ≡ d
+fourth-makes a b d = unfold _⊕_ in (sum-cancel (a ⊕ b) d)
+
+fourth-new : (a b d : ℕ) → b < d → a ≡ fourth d b a → ⊥
+fourth-new a b d l e =
+    let same : b ≡ d = unfold _⊕_ in (sym (sum-cancel a b) ∙ sum-comm a (a ⊕ b) ∙ ap (λ c. a ⊕ b ⊕ c) e ∙ sum-cancel (a ⊕ b) d) in
+    omega arith
+
+module _ (p n : ℕ) (h : Modulus p) (o : SearchOrder n) (r : List ℕ) (inField : WordsInField p n r) (g : isGood hadamardShape p n r ≡ true) where
+  -- the products differ
+  good-products : (d b a : ℕ) → a < b → b < d → d < n → fourth d b a < d → SingularPlane p r d b a → ⊥
+  good-products d b a l m k f =
+      let two = power n o in
+      let is : n ≡ 2 ^ two .k = two .is in
+      plane-products p h (two .k) r (subst (λ (n : ℕ). WordsInField p n r) is inField)
+      (subst (λ (n : ℕ). isMds (numbers p) (elements p) n (hadamard (numbers p) r) ≡ true) is (good-mds p n r g))
+      a b (fourth d b a) d (omega arith) (omega arith) (omega arith) (omega arith) (fourth-new a b d m) (λ (e : a ≡ d). omega arith) (fourth-makes a b d)
+
+  -- the sums of order 8
+  good-sums : (d b a : ℕ) → a < b → b < d → d < n → n ≡ 8 → 2 ≤ planeSum r d b a
+  good-sums d b a l m k is =
+      plane-sum p h r (subst (λ (n : ℕ). WordsInField p n r) is inField)
+      (subst (λ (n : ℕ). isMds (numbers p) (elements p) n (hadamard (numbers p) r) ≡ true) is (good-mds p n r g))
+      (subst (λ (n : ℕ). sum (numbers p) n (λ i. getD r i 0) ≡ 1) is (good-sum p n h o r inField g)) a b (fourth d b a) d l m (omega arith) refl
+
+  -- so they pass
+  good-planes : (d : ℕ) → d < n → planesPass p n r d ≡ true
+  good-planes d k = planes-hold p n r d (λ b a l m f. (good-products d b a l m k f, good-sums d b a l m k))
 
 -- ---- the rows that are tried
 
 module _ (p n : ℕ) (h : Modulus p) (o : SearchOrder n) (r : List ℕ) (long : length r ≡ n) (inField : WordsInField p n r) where
   -- a good canonical row passes the tests
-  canonical-passes : canonical n r ≡ true → isGood hadamardShape p n r ≡ true → passes hadamardCuts n r ≡ true
+  canonical-passes : canonical n r ≡ true → isGood hadamardShape p n r ≡ true → passes (hadamardCuts p n) n r ≡ true
   unfolding passes
   canonical-passes e g =
       rw (
-        each-every n (λ d. mayStand (take d r) (getD r d 0)) stands,
+        each-every n (λ d. mayStand p n (take d r) (getD r d 0)) stands,
         one-last r n (order-least n o) (omega arith) (xor-sum p r n (omega arith) ∙ good-sum p n h o r inField g),
       )
     where
@@ -166,31 +288,35 @@ module _ (p n : ℕ) (h : Modulus p) (o : SearchOrder n) (r : List ℕ) (long : 
           let less : j < d = omega (arith, length-take-le d r (omega arith)) in
           omega (arith, good-different p n h o r inField g j d (omega arith) l (sym (getD-take d r j 0 less) ∙ q))
 
-      stands : (d : ℕ) → d < n → mayStand (take d r) (getD r d 0) ≡ true
-      stands zero l = sym (stand-first r 0 (getD r 0 0) refl)
-      stands (suc d) l =
-          sym (stand-passes r (suc d) (getD r (suc d) 0) (omega arith) (omega (arith, order-most n o)) (omega arith)
+      comes-next : (d : ℕ) → d < n → isNext (take d r) (getD r d 0) ≡ true
+      comes-next zero l = sym (next-first r 0 (getD r 0 0) refl) ∙ lt-ltb 0 (getD r 0 0) (good-positive p n h o r inField g 0 l)
+      comes-next (suc d) l =
+          sym (next-passes r (suc d) (getD r (suc d) 0) (omega arith) (omega (arith, order-most n o)) (omega arith)
           (ltb-true _ _ (every-each (n - 1) (risesAt r) (tests n o r ∙ e) d (omega arith))) (new (suc d) l))
 
+      stands : (d : ℕ) → d < n → mayStand p n (take d r) (getD r d 0) ≡ true
+      stands d l = stand-own p n r d (omega arith) ∙ (rw (comes-next d l, good-planes p n h o r inField g d l))
+
   -- a row that is tried is canonical
-  tried-canonical : tried hadamardCuts p n r ≡ true → canonical n r ≡ true
+  tried-canonical : tried (hadamardCuts p n) p n r ≡ true → canonical n r ≡ true
   tried-canonical t =
       sym (tests n o r)
       ∙ each-every (n - 1) (risesAt r) (λ d l.
-      lt-ltb _ _ (stand-larger r (suc d) (getD r (suc d) 0) (omega arith) (omega (arith, order-most n o)) (omega arith) (tried-stands hadamardCuts p n r t (suc d) (omega arith))))
+      lt-ltb _ _ (next-larger r (suc d) (getD r (suc d) 0) (omega arith) (omega (arith, order-most n o)) (omega arith)
+      (all-next p n r (omega arith) (tried-stands (hadamardCuts p n) p n r t) (suc d) (omega arith))))
 
-  tried-same : (canonical n r && isGood hadamardShape p n r) ≡ tried hadamardCuts p n r
+  tried-same : (canonical n r && isGood hadamardShape p n r) ≡ tried (hadamardCuts p n) p n r
   unfolding tried
   tried-same =
       same-bool _ _
       (λ e.
       let g = and-right (canonical n r) (isGood hadamardShape p n r) e in
       rw (canonical-passes (and-left (canonical n r) (isGood hadamardShape p n r) e) g) g)
-      (λ t. rw (tried-canonical t) (and-right (passes hadamardCuts n r) (isGood hadamardShape p n r) t))
+      (λ t. rw (tried-canonical t) (and-right (passes (hadamardCuts p n) n r) (isGood hadamardShape p n r) t))
 
 -- the lightest row is the lightest of those that are tried
 pub tried-rows : (p n : ℕ) → Modulus p → SearchOrder n → (cs : List ℕ)
-    → lightestRow hadamardShape p n cs ≡ lightest (tried hadamardCuts p n) (keyOf p n) (words (ascending (2 ^ degree p) cs) n)
+    → lightestRow hadamardShape p n cs ≡ lightest (tried (hadamardCuts p n) p n) (keyOf p n) (words (ascending (2 ^ degree p) cs) n)
 unfolding lightest
 tried-rows p n h o cs =
     canonical-lightest p n h o cs
@@ -198,6 +324,21 @@ tried-rows p n h o cs =
     (λ r m. tried-same p n h o r (mem-words (ascending (2 ^ degree p) cs) n r .0 m .0) (word-in-field p n cs r m))
 
 -- ---- a whole row
+
+-- its blocks of sizes 1 and 2 are regular
+small-regular : (p n : ℕ) → Modulus p → SearchOrder n → (row : List ℕ) → WordsInField p n row → SmallBlocks p n row → (k r s : ℕ) → 1 ≤ k → k ≤ 2
+    → isRegularBlock (numbers p) n (hadamard (numbers p) row) k r s ≡ true
+small-regular p n h o row below small k r s l u =
+    subst (λ (n : ℕ). WordsInField p n row → SmallBlocks p n row → isRegularBlock (numbers p) n (hadamard (numbers p) row) k r s ≡ true) (sym (two .is)) sizes below small
+  where
+    two : Power n
+    two = power n o
+
+    sizes : WordsInField p (2 ^ two .k) row → SmallBlocks p (2 ^ two .k) row → isRegularBlock (numbers p) (2 ^ two .k) (hadamard (numbers p) row) k r s ≡ true
+    sizes w b = elim (decLt k 2) [
+      | yes v ↦ let one : k ≡ 1 = omega arith in rw one (one-regular p h (two .k) row w r s (b .positive))
+      | no v ↦ let pair : k ≡ 2 = omega arith in rw pair (two-regular p h (two .k) row w r s (b .different) (b .products))
+    ]
 
 module _ (p n : ℕ) (h : Modulus p) (o : SearchOrder n) (row : List ℕ) (inField : WordsInField p n row) (m : List (List ℕ))
     (is : m ≡ framed n n (λ i j. getD row (bitXor i j) 0)) where
@@ -214,10 +355,13 @@ module _ (p n : ℕ) (h : Modulus p) (o : SearchOrder n) (row : List ℕ) (inFie
   unfolding InField
   matrix-in-field i j l k = rw (entries i j l k) (unfold WordsInField in (inField (bitXor i j) (entry-inside i j l k)))
 
-  -- few of its blocks decide
-  pub matrix-good : n ≤ length row → foldl _⊕_ 0 (take n row) ≡ 1 → regularUpTo (numbers p) n (entry m) 2 (n / 2) ≡ isGood hadamardShape p n (take n row)
-  matrix-good fits e =
-      regular-same p n h (entry m) (hadamard (numbers p) (take n row)) in-field same 2 (n / 2)
+  -- few of its blocks decide, where each entry may stand
+  pub matrix-good : n ≤ length row → foldl _⊕_ 0 (take n row) ≡ 1 → AllStand (hadamardCuts p n) n row
+      → regularBetween (numbers p) n (entry m) true 2 (n / 2) ≡ isGood hadamardShape p n (take n row)
+  matrix-good fits e stands =
+      regular-same p n h (entry m) (hadamard (numbers p) (take n row)) in-field same true 2 (n / 2)
+      ∙ sym (sizes-known (numbers p) n (hadamard (numbers p) (take n row)) true 2 (n / 2)
+      (λ k r s l u a b. small-regular p n h o (take n row) in-words (front-blocks p n row fits stands) k r s l u))
       ∙ sym (good-regular p n h o (take n row) in-words one)
     where
       in-field : (i j : ℕ) → i < n → j < n → entry m i j < 2 ^ degree p

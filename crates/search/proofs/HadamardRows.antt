@@ -6,6 +6,7 @@ use mathlib.Core.Logic.{⊎-elim}
 use mathlib.Core.Bool.{Bool, true, false, _&&_, true≢false}
 use mathlib.Core.List.{List, List·Memᴰ}
 use Prim.Native.Nat.{ℕ, _-_, _/_, _^_, _≤_, _<_}
+use native.Mathlib.Nat.{pos-of-ne-zero}
 use native.Mathlib.Omega.{arith}
 use lib.Dec.{eqb}
 use lib.ListN.{length, getD}
@@ -15,9 +16,9 @@ use Rattle.algebra.proofs.Involution.{and-left, and-right}
 use Rattle.algebra.specs.Places.{Affine}
 use Rattle.field.specs.Polynomial.{Modulus, degree}
 use Rattle.matrix.specs.Numbers.{numbers, elements, WordsInField}
-use Rattle.matrix.specs.Steps.Regular.{regularUpTo}
+use Rattle.matrix.specs.Steps.Regular.{regularBetween}
 use Rattle.matrix.proofs.Residues.{lift, lift-number, regular-carried}
-use Rattle.matrix.proofs.Rows.{involution-row-sum, row-sum-involution, equal-entries-not-mds, half-is-enough, moved-row-mds, moved-row-involution}
+use Rattle.matrix.proofs.Rows.{involution-row-sum, row-sum-involution, zero-entry-not-mds, equal-entries-not-mds, half-is-enough, moved-row-mds, moved-row-involution}
 use Rattle.matrix.proofs.Tallies.{elementCount-moved}
 use Rattle.search.specs.Lightest.{ascending, lightest, rowsOver}
 use Rattle.search.specs.Steps.IndexMaps.{Move, from, moves, moved, canonical}
@@ -33,6 +34,7 @@ use Rattle.search.proofs.IndexMaps.{moves-sound, moves-inverse, canonic
 pub record Power (n : ℕ) : Type 0 where
   pub k : ℕ
   pub positive : 1 ≤ k
+  pub most : k ≤ 3
   pub is : n ≡ 2 ^ k
   pub half : n / 2 ≡ 2 ^ (k - 1)
 
@@ -40,10 +42,10 @@ pub power : (n : ℕ) → SearchOrder n → Power n
 power n o = ⊎-elim (λ (e : n ≡ 4). rw e four) (λ (e : n ≡ 8). rw e eight) o
   where
     four : Power 4
-    four = record { k = 2; positive = omega arith; is = refl; half = refl }
+    four = record { k = 2; positive = omega arith; most = omega arith; is = refl; half = refl }
 
     eight : Power 8
-    eight = record { k = 3; positive = omega arith; is = refl; half = refl }
+    eight = record { k = 3; positive = omega arith; most = omega arith; is = refl; half = refl }
 
 -- ---- one row
 
@@ -54,25 +56,33 @@ pub good-hadamard : (p n : ℕ) (row : List ℕ)
 unfolding isGood hadamardShape rowMatrix hadamard
 good-hadamard p n row = refl
 
+-- its matrix is MDS
+pub good-mds : (p n : ℕ) (row : List ℕ) → isGood hadamardShape p n row ≡ true → isMds (numbers p) (elements p) n (hadamard (numbers p) row) ≡ true
+good-mds p n row g = and-right (isInvolution (numbers p) (elements p) n (hadamard (numbers p) row)) _ (sym (good-hadamard p n row) ∙ g)
+
 module _ (p : ℕ) (h : Modulus p) (k : ℕ) (row : List ℕ) (below : WordsInField p (2 ^ k) row) where
   -- the exclusive or of a good row is 1
   sum-of : isGood hadamardShape p (2 ^ k) row ≡ true → sum (numbers p) (2 ^ k) (λ i. getD row i 0) ≡ 1
   sum-of g = involution-row-sum p h k row below (and-left _ _ (sym (good-hadamard p (2 ^ k) row) ∙ g))
 
+  -- its entries are not 0
+  positive-of : isGood hadamardShape p (2 ^ k) row ≡ true → (i : ℕ) → i < 2 ^ k → 0 < getD row i 0
+  positive-of g i l = pos-of-ne-zero (λ z. true≢false (sym (good-mds p (2 ^ k) row g) ∙ zero-entry-not-mds p h k row below i l z))
+
   -- its entries differ
   different-of : isGood hadamardShape p (2 ^ k) row ≡ true → (i j : ℕ) → i < 2 ^ k → j < 2 ^ k → getD row i 0 ≡ getD row j 0 → i ≡ j
   different-of g i j a b e =
-      go (and-right (isInvolution (numbers p) (elements p) (2 ^ k) (hadamard (numbers p) row)) _ (sym (good-hadamard p (2 ^ k) row) ∙ g)) (eqb i j) refl
+      go (good-mds p (2 ^ k) row g) (eqb i j) refl
     where
       go : isMds (numbers p) (elements p) (2 ^ k) (hadamard (numbers p) row) ≡ true → (t : Bool) → eqb i j ≡ t → i ≡ j
       go f true q = eqb-true i j q
       go f false q = absurd (true≢false (sym f ∙ equal-entries-not-mds p h k row below i j a b (eqb-false i j q) e))
 
   -- few square blocks decide
-  regular-of : 1 ≤ k → sum (numbers p) (2 ^ k) (λ i. getD row i 0) ≡ 1
-      → isGood hadamardShape p (2 ^ k) row ≡ regularUpTo (numbers p) (2 ^ k) (hadamard (numbers p) row) 2 (2 ^ (k - 1))
-  regular-of g one =
-      good-hadamard p (2 ^ k) row ∙ (rw (row-sum-involution p h k row below one) (half-is-enough p h k row below g one))
+  regular-of : 1 ≤ k → k ≤ 3 → sum (numbers p) (2 ^ k) (λ i. getD row i 0) ≡ 1
+      → isGood hadamardShape p (2 ^ k) row ≡ regularBetween (numbers p) (2 ^ k) (hadamard (numbers p) row) true 0 (2 ^ (k - 1))
+  regular-of g u one =
+      good-hadamard p (2 ^ k) row ∙ (rw (row-sum-involution p h k row below one) (half-is-enough p h k row below g u one))
 
   -- a move of the places keeps it good
   moved-of : (m : Move) → List·Memᴰ m (moves (2 ^ k)) → isGood hadamardShape p (2 ^ k) (moved (2 ^ k) m row) ≡ isGood hadamardShape p (2 ^ k) row
@@ -90,16 +100,21 @@ module _ (p n : ℕ) (h : Modulus p) (o : SearchOrder n) (row : List ℕ) (below
       subst (λ (n : ℕ). WordsInField p n row → isGood hadamardShape p n row ≡ true → sum (numbers p) n (λ i. getD row i 0) ≡ 1) (sym (power n o .is))
       (λ b. sum-of p h (power n o .k) row b) below
 
+  pub good-positive : isGood hadamardShape p n row ≡ true → (i : ℕ) → i < n → 0 < getD row i 0
+  good-positive =
+      subst (λ (n : ℕ). WordsInField p n row → isGood hadamardShape p n row ≡ true → (i : ℕ) → i < n → 0 < getD row i 0) (sym (power n o .is))
+      (λ b. positive-of p h (power n o .k) row b) below
+
   pub good-different : isGood hadamardShape p n row ≡ true → (i j : ℕ) → i < n → j < n → getD row i 0 ≡ getD row j 0 → i ≡ j
   good-different =
       subst (λ (n : ℕ). WordsInField p n row → isGood hadamardShape p n row ≡ true → (i j : ℕ) → i < n → j < n → getD row i 0 ≡ getD row j 0 → i ≡ j) (sym (power n o .is))
       (λ b. different-of p h (power n o .k) row b) below
 
-  pub good-regular : sum (numbers p) n (λ i. getD row i 0) ≡ 1 → isGood hadamardShape p n row ≡ regularUpTo (numbers p) n (hadamard (numbers p) row) 2 (n / 2)
+  pub good-regular : sum (numbers p) n (λ i. getD row i 0) ≡ 1 → isGood hadamardShape p n row ≡ regularBetween (numbers p) n (hadamard (numbers p) row) true 0 (n / 2)
   good-regular one =
-      subst (λ (m : ℕ). WordsInField p m row → sum (numbers p) m (λ i. getD row i 0) ≡ 1 → isGood hadamardShape p m row ≡ regularUpTo (numbers p) m (hadamard (numbers p) row) 2 (2 ^ (power n o .k - 1)))
-      (sym (power n o .is)) (λ b. regular-of p h (power n o .k) row b (power n o .positive)) below one
-      ∙ ap (regularUpTo (numbers p) n (hadamard (numbers p) row) 2) (sym (power n o .half))
+      subst (λ (m : ℕ). WordsInField p m row → sum (numbers p) m (λ i. getD row i 0) ≡ 1 → isGood hadamardShape p m row ≡ regularBetween (numbers p) m (hadamard (numbers p) row) true 0 (2 ^ (power n o .k - 1)))
+      (sym (power n o .is)) (λ b. regular-of p h (power n o .k) row b (power n o .positive) (power n o .most)) below one
+      ∙ ap (regularBetween (numbers p) n (hadamard (numbers p) row) true 0) (sym (power n o .half))
 
   pub good-moved : (m : Move) → List·Memᴰ m (moves n) → isGood hadamardShape p n (moved n m row) ≡ isGood hadamardShape p n row
   good-moved =
@@ -108,10 +123,11 @@ module _ (p n : ℕ) (h : Modulus p) (o : SearchOrder n) (row : List ℕ) (below
 
 -- the test of the blocks depends on the entries alone
 pub regular-same : (p n : ℕ) → Modulus p → (f g : ℕ → ℕ → ℕ) → ((i j : ℕ) → i < n → j < n → f i j < 2 ^ degree p)
-    → ((i j : ℕ) → i < n → j < n → f i j ≡ g i j) → (step most : ℕ) → regularUpTo (numbers p) n f step most ≡ regularUpTo (numbers p) n g step most
-regular-same p n h f g below same step most =
-    regular-carried p h n f (λ i j. lift p (f i j)) (λ i j a b. lift-number p (f i j) (below i j a b)) step most
-    ∙ sym (regular-carried p h n g (λ i j. lift p (f i j)) (λ i j a b. lift-number p (f i j) (below i j a b) ∙ same i j a b) step most)
+    → ((i j : ℕ) → i < n → j < n → f i j ≡ g i j) → (least : Bool) (above most : ℕ)
+    → regularBetween (numbers p) n f least above most ≡ regularBetween (numbers p) n g least above most
+regular-same p n h f g below same least above most =
+    regular-carried p h n f (λ i j. lift p (f i j)) (λ i j a b. lift-number p (f i j) (below i j a b)) least above most
+    ∙ sym (regular-carried p h n g (λ i j. lift p (f i j)) (λ i j a b. lift-number p (f i j) (below i j a b) ∙ same i j a b) least above most)
 
 -- ---- the key
 

@@ -8,6 +8,7 @@ pub mod IndexMaps
 pub mod HadamardRows
 pub mod Executable
 pub mod LetterCounts
+pub mod PlaneCuts
 pub mod HadamardCuts
 pub mod Prefixes
 pub mod Start

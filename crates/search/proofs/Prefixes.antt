@@ -24,13 +24,13 @@ use Rattle.search.specs.declared.Best.{Best as Kept}
 use Rattle.search.specs.Lightest.{Best, nothing, found, lighter, keep, keepAll, member}
 use Rattle.search.specs.Shape.{isGood}
 use Rattle.search.specs.Answer.{keyOf}
-use Rattle.search.specs.Steps.Prefix.{kept, Cuts, passes, tried, bestAs, isHeavy, Reached, Whole, AtPrefix, NextLetter}
+use Rattle.search.specs.Steps.Prefix.{kept, Cuts, passes, AllStand, tried, bestAs, isHeavy, Reached, Whole, AtPrefix, NextLetter}
 use Rattle.search.specs.Steps.Walk.{completions, branches}
 use Rattle.search.proofs.LetterCounts.{table-knows, table-count, least-le, least-most}
 use Rattle.search.proofs.Rows.{member-mem, mem-words, getD-mem}
 use Rattle.search.proofs.Lightest.{keep-cases}
 use Rattle.search.proofs.Walk.{mem-completions, extend-none, extend-suc, branches-suc, branches-zero}
-use Rattle.search.proofs.Pruning.{total-suc, skip-stand, skip-bound, OnlyLast, last-letter, last-none}
+use Rattle.search.proofs.Pruning.{total-suc, stands-front, skip-stand, skip-bound, OnlyLast, last-letter, last-none}
 
 -- ---- the row kept
 
@@ -157,9 +157,12 @@ module _ {cuts : Cuts} {p n : ℕ} {letters counts : List ℕ} {least depth : �
   pub depth-inside : depth < 8
   depth-inside = omega (arith, at .brief .most, at .inside)
 
+  pub depth-fits : depth < length row
+  depth-fits = omega (arith, depth-inside, at .reached .eight)
+
   -- the prefix has as many entries
   prefix-long : length (take depth row) ≡ depth
-  prefix-long = length-take-le depth row (omega (arith, depth-inside, at .reached .eight))
+  prefix-long = length-take-le depth row (omega (arith, depth-fits))
 
   -- a sum of at most eight counts is small
   pub count-small : count ≤ 448
@@ -217,10 +220,10 @@ module _ {cuts : Cuts} {p n : ℕ} {letters counts : List ℕ} {least depth : �
     longer = set row depth a
 
     pub prefix-next : take (depth + 1) longer ≡ take depth row ++ a ∷ []
-    prefix-next = rw add-one (take-suc-set row depth a (omega (arith, depth-inside, at .reached .eight)))
+    prefix-next = rw add-one (take-suc-set row depth a depth-fits)
 
     entry-here : getD longer depth 0 ≡ a
-    entry-here = getD-set-same row depth a 0 (omega (arith, depth-inside, at .reached .eight))
+    entry-here = getD-set-same row depth a 0 depth-fits
 
     entry-before : (j : ℕ) → j < depth → getD longer j 0 ≡ getD row j 0
     entry-before j l = getD-set-other row depth j a 0 (λ (e : j ≡ depth). omega arith)
@@ -235,8 +238,23 @@ module _ {cuts : Cuts} {p n : ℕ} {letters counts : List ℕ} {least depth : �
         (letter-count a (nx .letter) ∙ ap (xorCount p) (sym entry-here))
         ∙ sym (ap (λ (m : ℕ). total m (λ j. xorCount p (getD longer j 0))) (add-one depth) ∙ total-suc depth (λ j. xorCount p (getD longer j 0)))
 
+    eight-next : length longer ≡ 8
+    eight-next = length-set row depth a ∙ at .reached .eight
+
+    over-next : (c : ℕ) → List·Memᴰ c (take (depth + 1) longer) → List·Memᴰ c letters
+    over-next c m = over-snoc letters (take depth row) a (at .reached .over) (nx .letter) c (subst (List·Memᴰ c) prefix-next m)
+
+    -- its entries are elements
+    pub in-field-next : WordsInField p (suc depth) longer
+    unfolding WordsInField
+    in-field-next j l =
+        let long : length (take (depth + 1) longer) ≡ depth + 1 = length-take-le (depth + 1) longer (omega (arith, eight-next, depth-inside)) in
+        at .brief .below (getD longer j 0)
+        (over-next (getD longer j 0)
+        (subst (λ (x : ℕ). List·Memᴰ x (take (depth + 1) longer)) (getD-take (depth + 1) longer j 0 (omega arith)) (getD-mem (take (depth + 1) longer) j 0 (omega arith))))
+
     module _ (may : cuts .mayStand (take depth row) a ≡ true) where
-      stands-next : (d : ℕ) → d < depth + 1 → cuts .mayStand (take d longer) (getD longer d 0) ≡ true
+      stands-next : AllStand cuts (depth + 1) longer
       stands-next d l = elim (decLt d depth) [
         | yes h ↦ ap₂ (cuts .mayStand) (take-set-le d row depth a (omega arith)) (entry-before d h) ∙ at .reached .stands d h
         | no h ↦
@@ -247,8 +265,8 @@ module _ {cuts : Cuts} {p n : ℕ} {letters counts : List ℕ} {least depth : �
       reached-next : Reached cuts p n letters (depth + 1) longer (count + getD counts a 0)
       reached-next =
           record {
-            eight = length-set row depth a ∙ at .reached .eight;
-            over = λ c m. over-snoc letters (take depth row) a (at .reached .over) (nx .letter) c (subst (List·Memᴰ c) prefix-next m);
+            eight = eight-next;
+            over = over-next;
             stands = stands-next;
             counted = count-next;
             rest = drop-set-lt n row depth a (at .inside) ∙ at .reached .rest;
@@ -265,12 +283,6 @@ module _ {cuts : Cuts} {p n : ℕ} {letters counts : List ℕ} {least depth : �
           }
 
       module _ (all : depth + 1 ≡ n) where
-        letter-at : (j : ℕ) → j < depth + 1 → List·Memᴰ (getD longer j 0) letters
-        letter-at j l =
-            let long : length (take (depth + 1) longer) ≡ depth + 1 = length-take-le (depth + 1) longer (omega (arith, reached-next .eight, depth-inside)) in
-            reached-next .over (getD longer j 0)
-            (subst (λ (x : ℕ). List·Memᴰ x (take (depth + 1) longer)) (getD-take (depth + 1) longer j 0 l) (getD-mem (take (depth + 1) longer) j 0 (omega arith)))
-
         -- the row is whole
         pub whole-next : Whole cuts p n longer (count + getD counts a 0)
         unfolding WordsInField keyOf
@@ -278,7 +290,8 @@ module _ {cuts : Cuts} {p n : ℕ} {letters counts : List ℕ} {least depth : �
             record {
               modulus = at .brief .modulus;
               order = at .brief .order;
-              inField = λ j l. at .brief .below (getD longer j 0) (letter-at j (omega arith));
+              inField = λ j l. in-field-next j (omega arith);
+              stands = λ d l. stands-next d (omega arith);
               ends =
                   subst (λ (m : ℕ). cuts .mayEnd (take m longer) (getD longer m 0) ≡ true) (omega arith)
                   (ap₂ (cuts .mayEnd) before-here entry-here ∙ nx .last all);
@@ -292,8 +305,7 @@ module _ {cuts : Cuts} {p n : ℕ} {letters counts : List ℕ} {least depth : �
         unfolding passes
         passes-next =
             ap₂ _&&_
-            (each-every n (λ d. cuts .mayStand (take d (take n longer)) (getD (take n longer) d 0)) (λ d l.
-            ap₂ (cuts .mayStand) (take-take d n longer (omega arith)) (getD-take n longer d 0 l) ∙ stands-next d (omega arith)))
+            (each-every n (λ d. cuts .mayStand (take d (take n longer)) (getD (take n longer) d 0)) (stands-front cuts n longer (whole-next .stands)))
             (ap₂ (cuts .mayEnd) (take-take (n - 1) n longer (omega arith)) (getD-take n longer (n - 1) 0 (omega arith)) ∙ whole-next .ends)
 
         -- where it is lighter, it is kept if it is good

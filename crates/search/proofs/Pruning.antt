@@ -9,7 +9,7 @@ use Prim.Native.Nat.{ℕ, zero, suc, _+_, _-_, _*_, _≤_, _<_}
 use native.Mathlib.Nat.{le-refl, le-trans, mul-suc, mul-zero, add-zero, add-suc}
 use native.Mathlib.Omega.{arith}
 use lib.ListN.{length, getD, take, length-append}
-use lib.Seq.{append-snoc, take-append-seam, getD-append-seam, getD-take}
+use lib.Seq.{append-snoc, take-append-seam, take-take, getD-append-seam, getD-take}
 use borrow.Author.Tests.{le-ltb}
 use Rattle.algebra.proofs.Involution.{and-left, and-right}
 use Rattle.field.specs.Polynomial.{xorCount}
@@ -21,7 +21,7 @@ use Rattle.search.specs.Lightest.{Best, found, lighter, keep, keepAll, m
 use Rattle.search.specs.Shape.{isGood}
 use Rattle.search.specs.Answer.{keyOf}
 use Rattle.search.specs.Steps.Walk.{completions}
-use Rattle.search.specs.Steps.Prefix.{Cuts, passes, tried}
+use Rattle.search.specs.Steps.Prefix.{Cuts, passes, AllStand, tried}
 use Rattle.search.proofs.Rows.{mem-words, member-mem, getD-mem, not-passed}
 use Rattle.search.proofs.Lightest.{keep-cases}
 use Rattle.search.proofs.Walk.{mem-completions, extend-none, skip, skip-none, skip-heavy}
@@ -78,12 +78,16 @@ total-least f least d (suc k) h =
 
 -- ---- a row that is tried
 
+-- the first entries of an array, as a row, may stand as they do
+pub stands-front : (cuts : Cuts) (n : ℕ) (row : List ℕ) → AllStand cuts n row → AllStand cuts n (take n row)
+stands-front cuts n row all d l = ap₂ (cuts .mayStand) (take-take d n row (omega arith)) (getD-take n row d 0 l) ∙ all d l
+
 module _ (cuts : Cuts) (p n : ℕ) (r : List ℕ) (t : tried cuts p n r ≡ true) where
   pub tried-passes : passes cuts n r ≡ true
   unfolding tried
   tried-passes = and-left (passes cuts n r) (isGood (cuts .shape) p n r) t
 
-  pub tried-stands : (d : ℕ) → d < n → cuts .mayStand (take d r) (getD r d 0) ≡ true
+  pub tried-stands : AllStand cuts n r
   unfolding passes
   tried-stands d l = every-each n (λ d. cuts .mayStand (take d r) (getD r d 0)) (and-left _ (cuts .mayEnd (take (n - 1) r) (getD r (n - 1) 0)) tried-passes) d l
 

@@ -46,7 +46,19 @@ fn lightest_row(p: u16, n: usize, candidates: &[u32]) -> Best
         row: [0; 8],
         key: 0,
     };
-    prefix::extend(p, n, &list[..count], &counts, least, 0, [0; 8], 0, none)
+    let products = field::products(p);
+    prefix::extend(
+        p,
+        &products,
+        n,
+        &list[..count],
+        &counts,
+        least,
+        0,
+        [0; 8],
+        0,
+        none,
+    )
 }
 
 // The answer of a search of this polynomial and order over the candidates, or the refusal.

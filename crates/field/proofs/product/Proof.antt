@@ -1,13 +1,13 @@
 -- `field::product` meets its contract. The invariant: what is added so far, plus the doubled factor times the bits left, is the product.
 -- Assumes nothing.
-use mathlib.Core.Path.{_≡_, sym, ap, _∙_, subst, subst⁻¹}
-use native.Mathlib.Nat.{zero-mul, one-mul, pos-of-ne-zero, lt-of-lt-of-le}
+use mathlib.Core.Path.{_≡_, sym, ap, _∙_, subst}
+use native.Mathlib.Nat.{pos-of-ne-zero, lt-of-lt-of-le}
 use Prim.Native.Nat.{ℕ, _*_, _^_, _<_, _/_}
 use native.Mathlib.Omega.{arith}
 use lib.Pow.{pow-mono, pow-pos}
 use lib.Bits.{bitAnd, and-mask}
 use Rattle.field.specs.Polynomial.{_⊕_, degree, rem, product}
-use Rattle.field.proofs.Sum.{sum-zero-l, sum-zero-r, sum-assoc, sum-lt, at-digit}
+use Rattle.field.proofs.Sum.{sum-zero-l, sum-zero-r, sum-assoc, sum-lt, selected}
 use Rattle.field.proofs.Degrees.{polynomial}
 use Rattle.field.proofs.Division.{rem-lt}
 use Rattle.field.proofs.Field.{times-step, times-zero-r}
@@ -19,12 +19,6 @@ Inv-loop p a b x₀ y₀ r₀ x y r = (x < 2 ^ degree p) × (r < 2 ^ degree p) �
 
 abbrev μ-loop : tie.MeasureT-loop
 μ-loop p a b x₀ y₀ r₀ x y r = y
-
--- what the lowest bit of y selects
-selected : (y x k : ℕ) → x < 2 ^ k → bitAnd y 1 * x < 2 ^ k
-selected y x k h =
-    subst⁻¹ (λ (n : ℕ). n * x < 2 ^ k) (and-mask y 1)
-    (at-digit (λ d. d * x < 2 ^ k) (subst⁻¹ (λ (n : ℕ). n < 2 ^ k) (zero-mul x) (pow-pos k)) (subst⁻¹ (λ (n : ℕ). n < 2 ^ k) (one-mul x) h) y)
 
 loop-holds : tie.Need-loop-holds Inv-loop μ-loop
 loop-holds c = (c .pre .1, pow-pos (degree (c .args .p)), sum-zero-l (product (c .args .p) (c .args .a) (c .args .b)))

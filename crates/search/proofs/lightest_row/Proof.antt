@@ -34,25 +34,32 @@ least-count-requires c κs = search needs
 cast-least : tie.Need-cast-least
 cast-least c = search needs
 
+products-requires : tie.Need-products-requires
+products-requires c κs = c .before .before .before .before .before .before .before .before .before .pre .0
+
 array-share-prefix-list-2 : tie.Need-array-share-prefix-list-2
-array-share-prefix-list-2 c = listed-fits _ _ (c .before .before .before .before .letters-of .ensures)
+array-share-prefix-list-2 c = listed-fits _ _ (c .before .before .before .before .before .before .letters-of .ensures)
 
 slice-aggregate-extend : tie.Need-slice-aggregate-extend
-slice-aggregate-extend c = sym (length-take-le _ _ (listed-fits _ _ (c .before .before .before .before .before .letters-of .ensures)))
+slice-aggregate-extend c = sym (length-take-le _ _ (listed-fits _ _ (c .before .before .before .before .before .before .before .letters-of .ensures)))
 
 extend-requires : tie.Need-extend-requires
 extend-requires c κs =
-    let s = c .before .before .before .before .before .before .before .before .before .before .before in
-    start-at (s .args .p) (s .args .n) (s .pre .0) (s .args .candidates .now) (s .pre .2) _ _ _ _ (c .before .before .before .before .before .before .before .before .before .count-table .ensures) (c .before .before .before .before .before .before .before .size .ensures)
-    (c .before .before .before .before .before .before .letters-of .ensures) (c .before .before .least-count .ensures)
-    hadamardCuts (s .pre .1) (order-least (s .args .n) (s .pre .1)) (order-most (s .args .n) (s .pre .1))
+    let s = c .before .before .before .before .before .before .before .before .before .before .before .before .before in
+    let known = c .before .before .before .before .before .before .before .before in (
+      start-at (s .args .p) (s .args .n) (s .pre .0) (s .args .candidates .now) (s .pre .2) _ _ _ _ (known .before .before .before .count-table .ensures)
+          (known .before .size .ensures) (known .letters-of .ensures) (c .before .before .before .before .least-count .ensures)
+          (hadamardCuts (s .args .p) (s .args .n)) (s .pre .1) (order-least (s .args .n) (s .pre .1)) (order-most (s .args .n) (s .pre .1)),
+      c .before .before .before .products .ensures,
+    )
 
 returns : tie.Need-returns
 returns c =
-    let s = c .before .before .before .before .before .before .before .before .before .before .before .before in
-    start-answer (s .args .p) (s .args .n) (s .pre .0) (s .args .candidates .now) (s .pre .2) _ _ _ _ (c .before .before .before .before .before .before .before .before .before .before .count-table .ensures) (c .before .before .before .before .before .before .before .before .size .ensures)
-    (c .before .before .before .before .before .before .before .letters-of .ensures) (c .before .before .before .least-count .ensures)
-    hadamardCuts (tried-rows (s .args .p) (s .args .n) (s .pre .0) (s .pre .1) (s .args .candidates .now)) (c .extend .result) (c .extend .ensures)
+    let s = c .before .before .before .before .before .before .before .before .before .before .before .before .before .before in
+    let known = c .before .before .before .before .before .before .before .before .before in
+    start-answer (s .args .p) (s .args .n) (s .pre .0) (s .args .candidates .now) (s .pre .2) _ _ _ _ (known .before .before .before .count-table .ensures)
+    (known .before .size .ensures) (known .letters-of .ensures) (c .before .before .before .before .before .least-count .ensures)
+    (hadamardCuts (s .args .p) (s .args .n)) (tried-rows (s .args .p) (s .args .n) (s .pre .0) (s .pre .1) (s .args .candidates .now)) (c .extend .result) (c .extend .ensures)
 
 pub lightest-row-spec : {M : Type 1} → statement M
 lightest-row-spec =
@@ -65,6 +72,7 @@ lightest-row-spec =
     slice-aggregate-least-count
     least-count-requires
     cast-least
+    products-requires
     array-share-prefix-list-2
     slice-aggregate-extend
     extend-requires

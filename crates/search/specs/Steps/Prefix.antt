@@ -30,6 +30,10 @@ unfoldable pub passes : Cuts → ℕ → List ℕ → Bool
 passes cuts n row =
     everyBelow n (λ d. cuts .mayStand (take d row) (getD row d 0)) && cuts .mayEnd (take (n - 1) row) (getD row (n - 1) 0)
 
+-- each of the first n entries of an array may stand behind those before it
+abbrev pub AllStand : Cuts → ℕ → List ℕ → Type 0
+AllStand cuts n row = (d : ℕ) → d < n → cuts .mayStand (take d row) (getD row d 0) ≡ true
+
 -- the rows that are tried and good
 unfoldable pub tried : Cuts → ℕ → ℕ → List ℕ → Bool
 tried cuts p n row = passes cuts n row && isGood (cuts .shape) p n row
@@ -65,15 +69,16 @@ pub record Brief (cuts : Cuts) (p n : ℕ) (letters counts : List ℕ) (least : 
 pub record Reached (cuts : Cuts) (p n : ℕ) (letters : List ℕ) (depth : ℕ) (row : List ℕ) (count : ℕ) : Type 0 where
   pub eight : length row ≡ 8
   pub over : (a : ℕ) → List·Memᴰ a (take depth row) → List·Memᴰ a letters
-  pub stands : (d : ℕ) → d < depth → cuts .mayStand (take d row) (getD row d 0) ≡ true
+  pub stands : AllStand cuts depth row
   pub counted : count ≡ elementCount p depth (λ j. getD row j 0)
   pub rest : drop n row ≡ replicate (8 - n) 0
 
--- a whole row of order n over the field with its key, whose last entry may be the last
+-- a whole row of order n over the field with its key, whose entries may stand where they do, the last as the last
 pub record Whole (cuts : Cuts) (p n : ℕ) (row : List ℕ) (key : ℕ) : Type 0 where
   pub modulus : Modulus p
   pub order : cuts .Order n
   pub inField : WordsInField p n row
+  pub stands : AllStand cuts n row
   pub ends : cuts .mayEnd (take (n - 1) row) (getD row (n - 1) 0) ≡ true
   pub keyed : key ≡ keyOf p n (take n row)
   pub rest : drop n row ≡ replicate (8 - n) 0

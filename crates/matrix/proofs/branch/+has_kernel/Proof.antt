@@ -14,16 +14,16 @@ use Rattle.matrix.proofs.branch.pivot.Reads as pivot-reads
 use Rattle.matrix.proofs.branch.+has_kernel.{statement}
 use Rattle.matrix.proofs.branch.+has_kernel.Tie.{close}
 
-abbrev μ-has-kernel : Measures 0 has-kernel-kinds.ps ℕ
-μ-has-kernel κs a = a .1 .1 .0
+abbrev μ-has-kernel : Measures 1 has-kernel-kinds.ps ℕ
+μ-has-kernel κs a = a .1 .1 .1 .0
 
-abbrev has-kernel-at : ℕ → In 0 has-kernel-kinds.ps
+abbrev has-kernel-at : ℕ → In 1 has-kernel-kinds.ps
 has-kernel-at t =
-    and 0 has-kernel-kinds.ps (is 0 has-kernel-kinds.ps μ-has-kernel t) has-kernel.Pre
+    and 1 has-kernel-kinds.ps (is 1 has-kernel-kinds.ps μ-has-kernel t) has-kernel.Pre
 
-abbrev has-kernel-below : ℕ → In 0 has-kernel-kinds.ps
+abbrev has-kernel-below : ℕ → In 1 has-kernel-kinds.ps
 has-kernel-below t =
-    and 0 has-kernel-kinds.ps (falls 0 has-kernel-kinds.ps _<_ μ-has-kernel t) has-kernel.Pre
+    and 1 has-kernel-kinds.ps (falls 1 has-kernel-kinds.ps _<_ μ-has-kernel t) has-kernel.Pre
 
 abbrev given : ℕ → has-kernel-lts.Claims
 given t = (pivot-reads.Asked, pivot-reads.Learnt, cleared-reads.Asked, cleared-reads.Learnt, has-kernel-below t, has-kernel.Post)
@@ -53,7 +53,7 @@ inside t c =
 has-kernel-cleared-requires : (t : ℕ) → has-kernel-lts.Need-cleared-requires (given t) (has-kernel-at t) has-kernel.Post
 has-kernel-cleared-requires t c κs =
     let pre = c .before .before .before .pre .1 in
-    (pre .0, inside t c, pre .1, pos-of-ne-zero (c .before .before .if1 .left), pre .2, pre .3)
+    (pre .0, inside t c, pre .1, pos-of-ne-zero (c .before .before .if1 .left), pre .2, pre .3, pre .4)
 
 has-kernel-sub-has-kernel : (t : ℕ) → has-kernel-lts.Need-sub-has-kernel (given t) (has-kernel-at t) has-kernel.Post
 has-kernel-sub-has-kernel t c = search needs
@@ -73,6 +73,7 @@ has-kernel-has-kernel-requires t c κs =
         omega arith,
         omega arith,
         cleared-in-field (args .p) (pre .0) (args .r) (args .block) (c .before .before .pivot .result) (c .before .before .pivot .ensures) (c .cleared .result) (args .c) (c .cleared .ensures),
+        pre .4,
       ),
     )
 

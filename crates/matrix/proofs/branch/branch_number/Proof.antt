@@ -18,10 +18,10 @@ use Rattle.matrix.proofs.branch.branch_number.Statement.{statement}
 use Rattle.matrix.proofs.branch.branch_number.Tie as tie
 
 abbrev Inv-loop : tie.InvT-loop
-Inv-loop p m n end best₀ columns₀ best columns = (columns ≤ end) × (best ≡ overPairs (numbers p) (elements p) n (entry m) columns (suc n))
+Inv-loop p products m n end best₀ columns₀ best columns = (columns ≤ end) × (best ≡ overPairs (numbers p) (elements p) n (entry m) columns (suc n))
 
 abbrev μ-loop : tie.MeasureT-loop
-μ-loop p m n end best₀ columns₀ best columns = end - columns
+μ-loop p products m n end best₀ columns₀ best columns = end - columns
 
 cast-end : tie.Need-cast-end Inv-loop μ-loop
 cast-end c = search needs
@@ -66,6 +66,7 @@ over-lines-requires c κs =
       few (c .before),
       columns-in-field (args .p) (args .n) (c .before .before .loop .columns) (args .m) (c .chosen-columns .result) (start .pre .2) (inside (c .before))
           (c .chosen-columns .ensures) (start .pre .3),
+      start .pre .4,
     )
 
 add-columns : tie.Need-add-columns Inv-loop μ-loop

@@ -20,10 +20,10 @@ abbrev lineOf : ℕ → ℕ → ℕ → List (List ℕ) → ℕ → List ℕ
 lineOf p c k block i = filled 0 (cleared (numbers p) (entry block) k i) (c - 1)
 
 abbrev Inv-loop : tie.InvT-loop
-Inv-loop p r c k block first b₀ i₀ b i = (i + 1 ≤ r) × (b ≡ filled (replicate 8 0) (lineOf p c k block) i)
+Inv-loop p products r c k block first b₀ i₀ b i = (i + 1 ≤ r) × (b ≡ filled (replicate 8 0) (lineOf p c k block) i)
 
 abbrev μ-loop : tie.MeasureT-loop
-μ-loop p r c k block first b₀ i₀ b i = r - i
+μ-loop p products r c k block first b₀ i₀ b i = r - i
 
 mul-first : tie.Need-mul-first Inv-loop μ-loop
 mul-first c = search needs
@@ -58,7 +58,7 @@ unfolding InField WordsInField
 cleared-line-requires c κs =
     let start = c .before .before .before .before .before in
     let pre = start .pre in
-    (pre .0, pre .3, pre .4, λ j l. pre .5 (start .args .k) j (pre .1) l, λ j l. pre .5 (c .before .other-line .result) j (inside (c .before)) l)
+    (pre .0, pre .3, pre .4, λ j l. pre .5 (start .args .k) j (pre .1) l, λ j l. pre .5 (c .before .other-line .result) j (inside (c .before)) l, pre .6)
 
 mul-b : tie.Need-mul-b Inv-loop μ-loop
 mul-b c = search needs
@@ -77,8 +77,8 @@ loop-again c =
     let args = c .before .before .before .before .before .before .args in
     let loop = c .before .before .before .before .loop in (
       omega arith,
-      filled-more (replicate 8 0) (lineOf (args .p) (args .c) (args .k) (args .t2)) (loop .i) (loop .b) (c .cleared-line .result) (omega arith) (loop .inv .1)
-          (cleared-as (args .p) (args .t2) (args .k) (loop .i) (c .before .before .other-line .result) (args .c - 1) (c .cleared-line .result)
+      filled-more (replicate 8 0) (lineOf (args .p) (args .c) (args .k) (args .t3)) (loop .i) (loop .b) (c .cleared-line .result) (omega arith) (loop .inv .1)
+          (cleared-as (args .p) (args .t3) (args .k) (loop .i) (c .before .before .other-line .result) (args .c - 1) (c .cleared-line .result)
           (c .before .before .other-line .ensures) (c .cleared-line .ensures)),
     )
 

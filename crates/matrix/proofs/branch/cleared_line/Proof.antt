@@ -21,10 +21,10 @@ abbrev entries : ℕ → List ℕ → List ℕ → ℕ → ℕ
 entries p first line = clearedLine (numbers p) (λ j. getD first j 0) (λ j. getD line j 0)
 
 abbrev Inv-loop : tie.InvT-loop
-Inv-loop p c first line a b r₀ j₀ r j = (j + 1 ≤ c) × (r ≡ filled 0 (entries p first line) j)
+Inv-loop p products c first line a b r₀ j₀ r j = (j + 1 ≤ c) × (r ≡ filled 0 (entries p first line) j)
 
 abbrev μ-loop : tie.MeasureT-loop
-μ-loop p c first line a b r₀ j₀ r j = c - j
+μ-loop p products c first line a b r₀ j₀ r j = c - j
 
 array-read-a : tie.Need-array-read-a Inv-loop μ-loop
 array-read-a c = search needs
@@ -39,29 +39,29 @@ loop-holds c = (omega arith, refl)
 add-loop : tie.Need-add-loop Inv-loop μ-loop
 add-loop c = search needs
 
-add-product : tie.Need-add-product Inv-loop μ-loop
-add-product c = search needs
+add-times : tie.Need-add-times Inv-loop μ-loop
+add-times c = search needs
 
-array-read-product : tie.Need-array-read-product Inv-loop μ-loop
-array-read-product c = search needs
+array-read-times : tie.Need-array-read-times Inv-loop μ-loop
+array-read-times c = search needs
 
-product-requires : tie.Need-product-requires Inv-loop μ-loop
+times-requires : tie.Need-times-requires Inv-loop μ-loop
 unfolding WordsInField
-product-requires c κs =
+times-requires c κs =
     let pre = c .before .before .pre in
-    (pre .0, pre .3 0 (omega arith))
+    (pre .3 0 (omega arith), pre .5)
 
-add-product-2 : tie.Need-add-product-2 Inv-loop μ-loop
-add-product-2 c = search needs
+add-times-2 : tie.Need-add-times-2 Inv-loop μ-loop
+add-times-2 c = search needs
 
-array-read-product-2 : tie.Need-array-read-product-2 Inv-loop μ-loop
-array-read-product-2 c = search needs
+array-read-times-2 : tie.Need-array-read-times-2 Inv-loop μ-loop
+array-read-times-2 c = search needs
 
-product-requires-2 : tie.Need-product-requires-2 Inv-loop μ-loop
+times-requires-2 : tie.Need-times-requires-2 Inv-loop μ-loop
 unfolding WordsInField
-product-requires-2 c κs =
+times-requires-2 c κs =
     let pre = c .before .before .before .pre in
-    (pre .0, pre .4 0 (omega arith))
+    (pre .4 0 (omega arith), pre .5)
 
 array-write-r : tie.Need-array-write-r Inv-loop μ-loop
 array-write-r c = search needs
@@ -78,10 +78,10 @@ loop-again c =
     let args = c .before .before .before .before .args in
     let loop = c .before .before .before .loop in (
       omega arith,
-      filled-more 0 (entries (args .p) (args .t2) (args .t3)) (loop .j) (loop .r) (bitXor (c .before .product .result) (c .product2 .result)) (omega arith) (loop .inv .1)
+      filled-more 0 (entries (args .p) (args .t3) (args .t4)) (loop .j) (loop .r) (bitXor (c .before .times .result) (c .times2 .result)) (omega arith) (loop .inv .1)
           (ap₂ bitXor
-          (c .before .product .ensures ∙ ap (λ (k : ℕ). product (args .p) (getD (args .t2) 0 0) (getD (args .t3) k 0)) (add-one (loop .j)))
-          (c .product2 .ensures ∙ ap (λ (k : ℕ). product (args .p) (getD (args .t3) 0 0) (getD (args .t2) k 0)) (add-one (loop .j)))),
+          (c .before .times .ensures ∙ ap (λ (k : ℕ). product (args .p) (getD (args .t3) 0 0) (getD (args .t4) k 0)) (add-one (loop .j)))
+          (c .times2 .ensures ∙ ap (λ (k : ℕ). product (args .p) (getD (args .t4) 0 0) (getD (args .t3) k 0)) (add-one (loop .j)))),
     )
 
 returns : tie.Need-returns Inv-loop μ-loop
@@ -99,12 +99,12 @@ cleared-line-spec =
     array-read-b
     loop-holds
     add-loop
-    add-product
-    array-read-product
-    product-requires
-    add-product-2
-    array-read-product-2
-    product-requires-2
+    add-times
+    array-read-times
+    times-requires
+    add-times-2
+    array-read-times-2
+    times-requires-2
     array-write-r
     add-j
     loop-less

@@ -11,10 +11,10 @@ use Rattle.matrix.proofs.branch.over_lines.Statement.{statement}
 use Rattle.matrix.proofs.branch.over_lines.Tie as tie
 
 abbrev Inv-loop : tie.InvT-loop
-Inv-loop p narrow n c best end least₀ lines₀ least lines = (lines ≤ end) × (least ≡ overLines (numbers p) (elements p) n c (entry narrow) lines best)
+Inv-loop p products narrow n c best end least₀ lines₀ least lines = (lines ≤ end) × (least ≡ overLines (numbers p) (elements p) n c (entry narrow) lines best)
 
 abbrev μ-loop : tie.MeasureT-loop
-μ-loop p narrow n c best end least₀ lines₀ least lines = end - lines
+μ-loop p products narrow n c best end least₀ lines₀ least lines = end - lines
 
 cast-end : tie.Need-cast-end Inv-loop μ-loop
 cast-end c = search needs
@@ -29,7 +29,7 @@ tried-requires : tie.Need-tried-requires Inv-loop μ-loop
 tried-requires c κs =
     let start = c .before .before in
     let pre = start .pre in
-    (pre .0, pre .1, pre .2, pre .3, rw (shifted (start .args .n) (pre .1)) at (c .loop-test .taken))
+    (pre .0, pre .1, pre .2, pre .3, rw (shifted (start .args .n) (pre .1)) at (c .loop-test .taken), pre .4)
 
 add-lines : tie.Need-add-lines Inv-loop μ-loop
 add-lines c = search needs

@@ -46,6 +46,7 @@ has-kernel-requires c κs =
       omega (arith, few start),
       start .pre .2,
       lines-in-field (args .p) (args .n) (args .c) (args .lines) (args .narrow) (c .chosen-lines .result) (start .pre .1) (start .pre .4) (c .chosen-lines .ensures) (start .pre .3),
+      start .pre .5,
     )
 
 -- what the elimination decides

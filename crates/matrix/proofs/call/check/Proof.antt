@@ -9,15 +9,15 @@ use borrow.Author.Needs.{needs}
 use Rattle.matrix.proofs.call.check.Statement.{statement}
 use Rattle.matrix.proofs.call.check.Tie as tie
 
-branch-number-requires : tie.Need-branch-number-requires
-branch-number-requires c κs = search needs
+branch-number-of-requires : tie.Need-branch-number-of-requires
+branch-number-of-requires c κs = search needs
 
 cast-t5 : tie.Need-cast-t5
 unfolding InField
 cast-t5 c =
     let a = c .before .args in
     let w = c .before .pre in
-    record { fits = omega (arith, c .branch-number .ensures, branch-most (a .p) (w .0) (a .n) _ (w .3) (w .1), w .2) }
+    record { fits = omega (arith, c .branch-number-of .ensures, branch-most (a .p) (w .0) (a .n) _ (w .3) (w .1), w .2) }
 
 add-yes-no : tie.Need-add-yes-no
 add-yes-no c = search needs
@@ -42,7 +42,7 @@ pub check-spec : {M : Type 1} → statement M
 check-spec =
     tie.close
     (tie.spec
-    branch-number-requires
+    branch-number-of-requires
     cast-t5
     add-yes-no
     yes-no-requires

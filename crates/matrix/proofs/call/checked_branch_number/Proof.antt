@@ -21,23 +21,23 @@ enum-told c = search needs
 sound : (c : tie.After-enum-told) → let a = c .before .before .before .args in Sound (a .p) (a .n) (a .m)
 sound c = matrix-sound _ _ _ _ _ (c .before .before .matrix-fault .ensures) (c .enum-told .given .1)
 
-cast-branch-number : tie.Need-cast-branch-number
-cast-branch-number c = record { fits = modulus-fits (sound c .modulus) }
+cast-branch-number-of : tie.Need-cast-branch-number-of
+cast-branch-number-of c = record { fits = modulus-fits (sound c .modulus) }
 
-branch-number-requires : tie.Need-branch-number-requires
-branch-number-requires c κs = let w = sound c in (w .modulus, w .low, w .high, w .values)
+branch-number-of-requires : tie.Need-branch-number-of-requires
+branch-number-of-requires c κs = let w = sound c in (w .modulus, w .low, w .high, w .values)
 
 cast-t10 : tie.Need-cast-t10
 unfolding InField
 cast-t10 c =
     let w = sound (c .before) in
-    record { fits = omega (arith, c .branch-number .ensures, branch-most _ (w .modulus) _ _ (w .values) (w .low), w .high) }
+    record { fits = omega (arith, c .branch-number-of .ensures, branch-most _ (w .modulus) _ _ (w .values) (w .low), w .high) }
 
 returns : tie.Need-returns
 returns c = call-refused _ _ (c .before .before .before .matrix-fault .ensures) _ _ _ (c .before .r .given .1)
 
 returns-2 : tie.Need-returns-2
-returns-2 c = call-accepted _ _ (c .before .before .before .matrix-fault .ensures) _ _ (c .before .enum-told .given .1) (c .branch-number .ensures)
+returns-2 c = call-accepted _ _ (c .before .before .before .matrix-fault .ensures) _ _ (c .before .enum-told .given .1) (c .branch-number-of .ensures)
 
 pub checked-branch-number-spec : {M : Type 1} → statement M
 checked-branch-number-spec =
@@ -46,8 +46,8 @@ checked-branch-number-spec =
     matrix-fault-requires
     enum-known-r
     enum-told
-    cast-branch-number
-    branch-number-requires
+    cast-branch-number-of
+    branch-number-of-requires
     cast-t10
     returns
     returns-2)

@@ -24,11 +24,11 @@ fault : (c : tie.After-first-fault)
     → let a = c .before .args in Outcome-after (c .first-fault .result) (a .p) (ltb 8 (a .n)) (someEntryTooLarge (a .p) (a .n) (entry (a .m)))
 fault c = same-faults _ _ _ _ _ (c .first-fault .ensures) refl (matrix-alone _ _ _)
 
-cast-determinant : tie.Need-cast-determinant
-cast-determinant c = record { fits = modulus-fits (accepted _ _ _ _ _ (fault (c .before .before)) (c .enum-told .given .1) .modulus) }
+cast-determinant-of : tie.Need-cast-determinant-of
+cast-determinant-of c = record { fits = modulus-fits (accepted _ _ _ _ _ (fault (c .before .before)) (c .enum-told .given .1) .modulus) }
 
-determinant-requires : tie.Need-determinant-requires
-determinant-requires c κs =
+determinant-of-requires : tie.Need-determinant-of-requires
+determinant-of-requires c κs =
     let a = accepted _ _ _ _ _ (fault (c .before .before)) (c .enum-told .given .1) in
     (a .modulus, ltb-false 8 _ (a .order), entries-pass _ _ _ (a .values))
 
@@ -41,7 +41,7 @@ returns c = call-refused _ _ (fault (c .before .before .before)) _ _ _ (c .befor
 
 returns-2 : tie.Need-returns-2
 unfolding determinantFaults
-returns-2 c = call-accepted _ _ (fault (c .before .before .before)) _ _ (c .before .enum-told .given .1) (c .determinant .ensures)
+returns-2 c = call-accepted _ _ (fault (c .before .before .before)) _ _ (c .before .enum-told .given .1) (c .determinant-of .ensures)
 
 pub checked-determinant-spec : {M : Type 1} → statement M
 checked-determinant-spec =
@@ -50,8 +50,8 @@ checked-determinant-spec =
     first-fault-requires
     enum-known-r
     enum-told
-    cast-determinant
-    determinant-requires
+    cast-determinant-of
+    determinant-of-requires
     cast-t11
     returns
     returns-2)

@@ -1,8 +1,4 @@
--- `matrix::call::checked_mds` meets its contract: where every square block is regular, the matrix is MDS. Assumes nothing.
-use native.Mathlib.Nat.{le-refl}
-use lib.Dec.{lit≤}
-use Rattle.matrix.specs.Numbers.{entry, InField}
-use Rattle.matrix.proofs.Theorems.{mds-is-regular}
+-- `matrix::call::checked_mds` meets its contract. Assumes nothing.
 use Rattle.field.proofs.Calls.{modulus-fits}
 use Rattle.matrix.proofs.CallFaults.{Sound, matrix-sound, call-refused, call-accepted}
 use borrow.Author.Needs.{needs}
@@ -22,11 +18,11 @@ enum-told c = search needs
 sound : (c : tie.After-enum-told) → let a = c .before .before .before .args in Sound (a .p) (a .n) (a .m)
 sound c = matrix-sound _ _ _ _ _ (c .before .before .matrix-fault .ensures) (c .enum-told .given .1)
 
-cast-regular-up-to : tie.Need-cast-regular-up-to
-cast-regular-up-to c = record { fits = modulus-fits (sound c .modulus) }
+cast-is-mds : tie.Need-cast-is-mds
+cast-is-mds c = record { fits = modulus-fits (sound c .modulus) }
 
-regular-up-to-requires : tie.Need-regular-up-to-requires
-regular-up-to-requires c κs = let w = sound c in (w .modulus, w .high, le-refl _, lit≤ tt, lit≤ tt, w .values)
+is-mds-requires : tie.Need-is-mds-requires
+is-mds-requires c κs = let w = sound c in (w .modulus, w .low, w .high, w .values)
 
 yes-no-requires : tie.Need-yes-no-requires
 yes-no-requires c κs = search needs
@@ -35,12 +31,7 @@ returns : tie.Need-returns
 returns c = call-refused _ _ (c .before .before .before .matrix-fault .ensures) _ _ _ (c .before .r .given .1)
 
 returns-2 : tie.Need-returns-2
-unfolding InField
-returns-2 c =
-    let a = c .before .before .before .before .before .args in
-    let w = sound (c .before .before) in
-    call-accepted _ _ (c .before .before .before .before .matrix-fault .ensures) _ _ (c .before .before .enum-told .given .1)
-    (cc (mds-is-regular (a .p) (w .modulus) (a .n) (entry (a .m)) (w .values) (w .low)))
+returns-2 c = call-accepted _ _ (c .before .before .before .before .matrix-fault .ensures) _ _ (c .before .before .enum-told .given .1) cc
 
 pub checked-mds-spec : {M : Type 1} → statement M
 checked-mds-spec =
@@ -49,8 +40,8 @@ checked-mds-spec =
     matrix-fault-requires
     enum-known-r
     enum-told
-    cast-regular-up-to
-    regular-up-to-requires
+    cast-is-mds
+    is-mds-requires
     yes-no-requires
     returns
     returns-2)

@@ -16,7 +16,7 @@ is-good-requires c κs =
     let w = c .pre .0 in
     let n = c .args .n in
     let eight : length (c .args .row) ≡ 8 = search needs in
-    (w .modulus, w .order, w .inField, last-one (c .args .row) n (order-least n (w .order)) (omega (arith, order-most n (w .order))) (w .ends))
+    (w .modulus, w .order, w .inField, last-one (c .args .row) n (order-least n (w .order)) (omega (arith, order-most n (w .order))) (w .ends), w .stands, c .pre .2)
 
 returns : tie.Need-returns
 returns c =

@@ -1,16 +1,17 @@
--- `search::hadamard::may_stand` meets its contract: none of the first i entries is the letter. Assumes nothing.
+-- `search::hadamard::is_next` meets its contract: none of the first i entries is the letter. Assumes nothing.
 use mathlib.Core.Path.{_≡_, refl}
 use mathlib.Core.Bool.{false}
 use Prim.Native.Nat.{_-_, _≤_, zero-le}
-use native.Mathlib.Nat.{pos-of-ne-zero}
+use native.Mathlib.Nat.{pos-of-ne-zero, lt-of-lt-of-le}
 use native.Mathlib.Omega.{arith}
+use lib.Dec.{lit≤}
 use lib.ListN.{length, take}
 use Rattle.search.specs.Lightest.{member}
 use Rattle.search.specs.Steps.Hadamard.{placeBefore}
-use Rattle.search.proofs.HadamardCuts.{place-inside, stand-first, stand-low, stand-equal, stand-passes, stand-turn}
+use Rattle.search.proofs.HadamardCuts.{place-inside, next-first, next-low, next-equal, next-passes, next-turn}
 use borrow.Author.Needs.{needs}
-use Rattle.search.proofs.hadamard.may_stand.Statement.{statement}
-use Rattle.search.proofs.hadamard.may_stand.Tie as tie
+use Rattle.search.proofs.hadamard.is_next.Statement.{statement}
+use Rattle.search.proofs.hadamard.is_next.Tie as tie
 
 abbrev Inv-loop : tie.InvT-loop
 Inv-loop depth a row low i₀ i = (i ≤ depth) × (member a (take i row) ≡ false)
@@ -19,13 +20,14 @@ abbrev μ-loop : tie.MeasureT-loop
 μ-loop depth a row low i₀ i = depth - i
 
 returns : tie.Need-returns Inv-loop μ-loop
-returns c = stand-first (c .before .args .t1) (c .before .args .depth) (c .before .args .a) (c .if1 .taken)
-
-mul-low : tie.Need-mul-low Inv-loop μ-loop
-mul-low c = search needs
+returns c = next-first (c .before .args .t1) (c .before .args .depth) (c .before .args .a) (c .if1 .taken)
 
 array-read-low : tie.Need-array-read-low Inv-loop μ-loop
 array-read-low c = search needs
+
+cast-low : tie.Need-cast-low Inv-loop μ-loop
+unfolding placeBefore
+cast-low c = record { fits = lt-of-lt-of-le (place-inside (c .before .args .depth) (c .if1 .left) (c .before .pre)) (lit≤ tt) }
 
 array-read-if2 : tie.Need-array-read-if2 Inv-loop μ-loop
 unfolding placeBefore
@@ -36,7 +38,7 @@ unfolding placeBefore
 returns-2 c =
     let args = c .before .before .args in
     let eight : length (args .t1) ≡ 8 = search needs in
-    stand-low (args .t1) (args .depth) (args .a) (omega arith) (c .before .before .pre) (pos-of-ne-zero (c .before .if1 .left)) (c .if2 .taken)
+    next-low (args .t1) (args .depth) (args .a) (omega arith) (c .before .before .pre) (pos-of-ne-zero (c .before .if1 .left)) (c .if2 .taken)
 
 loop-holds : tie.Need-loop-holds Inv-loop μ-loop
 unfolding member
@@ -50,7 +52,7 @@ returns-3 c =
     let s = c .before .before .before .before .before in
     let args = s .args in
     let eight : length (args .t1) ≡ 8 = search needs in
-    stand-equal (args .t1) (args .depth) (args .a) (omega arith) (s .pre) (omega arith) (c .before .before .loop .i) (c .before .loop-test .taken) (c .if3 .taken)
+    next-equal (args .t1) (args .depth) (args .a) (omega arith) (s .pre) (omega arith) (c .before .before .loop .i) (c .before .loop-test .taken) (c .if3 .taken)
 
 add-i : tie.Need-add-i Inv-loop μ-loop
 add-i c = search needs
@@ -63,7 +65,7 @@ loop-again c =
     let args = c .before .before .before .before .before .args in
     let at = c .before .before .loop in
     let eight : length (args .t1) ≡ 8 = search needs in
-    (omega arith, stand-turn (args .t1) (args .a) (at .i) (omega arith) (at .inv .1) (c .if3 .left))
+    (omega arith, next-turn (args .t1) (args .a) (at .i) (omega arith) (at .inv .1) (c .if3 .left))
 
 returns-4 : tie.Need-returns-4 Inv-loop μ-loop
 unfolding placeBefore
@@ -72,17 +74,17 @@ returns-4 c =
     let args = s .args in
     let eight : length (args .t1) ≡ 8 = search needs in
     let all : c .before .loop .i ≡ args .depth = omega arith in
-    stand-passes (args .t1) (args .depth) (args .a) (omega arith) (s .pre) (pos-of-ne-zero (c .before .before .before .if1 .left)) (c .before .before .if2 .left) (rw all at (c .before .loop .inv .1))
+    next-passes (args .t1) (args .depth) (args .a) (omega arith) (s .pre) (pos-of-ne-zero (c .before .before .before .if1 .left)) (c .before .before .if2 .left) (rw all at (c .before .loop .inv .1))
 
-pub may-stand-spec : {M : Type 1} → statement M
-may-stand-spec =
+pub is-next-spec : {M : Type 1} → statement M
+is-next-spec =
     tie.close
     (tie.spec
     Inv-loop
     μ-loop
     returns
-    mul-low
     array-read-low
+    cast-low
     array-read-if2
     returns-2
     loop-holds

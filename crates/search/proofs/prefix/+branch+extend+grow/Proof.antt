@@ -1,0 +1,340 @@
+-- The proof of the cycle of calls {branch, grow, extend}: with d = n - depth the measures are 3·d + 1, 3·d and 3·d + 2. Assumes nothing.
+use mathlib.Core.Path.{_≡_, sym, ap, _∙_}
+use mathlib.Core.Bool.{true}
+use Prim.Native.Nat.{ℕ, _+_, _-_, _≤_, _<_, zero-le}
+use native.Mathlib.Nat.{lt-of-le-of-lt}
+use native.Mathlib.Omega.{arith}
+use lib.Dec.{lit<}
+use lib.ListN.{length, take}
+use borrow.Author.Tests.{not-true, not-false}
+use Rattle.search.specs.Lightest.{keepAll}
+use Rattle.search.specs.Steps.Walk.{completions, branches}
+use Rattle.search.specs.Answer.{keyOf}
+use Rattle.search.specs.Steps.Prefix.{kept, bestAs, tried}
+use Rattle.search.specs.Steps.Hadamard.{mayStand, hadamardCuts}
+use Rattle.search.proofs.HadamardCuts.{stand-not-next, stand-not-planes, stand-both, only-last}
+use Rattle.search.proofs.Prefixes.{depth-inside, depth-fits, count-small, bound-small, letter-small, branch-left, branch-heavy}
+use Rattle.search.proofs.Prefixes.{prefix-next, in-field-next, at-next, whole-next, branch-whole}
+use Rattle.search.proofs.Prefixes.{upto-none, upto-letter, upto-at, upto-more, upto-all, last-left, last-taken, last-row}
+use borrow.Author.Needs.{needs}
+use borrow.Fn.Kinds.{In}
+use borrow.Fn.PlainCycle.{Measures, is, falls, and}
+use Rattle.search.proofs.prefix.branch.Reads as branch
+use Rattle.search.proofs.prefix.branch.Kinds as branch-kinds
+use Rattle.search.proofs.prefix.+branch+extend+grow.Lts-branch as branch-lts
+use Rattle.search.proofs.prefix.extend.Reads as extend
+use Rattle.search.proofs.prefix.extend.Kinds as extend-kinds
+use Rattle.search.proofs.prefix.+branch+extend+grow.Lts-extend as extend-lts
+use Rattle.search.proofs.prefix.grow.Reads as grow
+use Rattle.search.proofs.prefix.grow.Kinds as grow-kinds
+use Rattle.search.proofs.prefix.+branch+extend+grow.Lts-grow as grow-lts
+use Rattle.search.proofs.prefix.finish.Reads as finish-reads
+use Rattle.search.proofs.hadamard.last_letter.Reads as last-letter-reads
+use Rattle.search.proofs.hadamard.is_next.Reads as is-next-reads
+use Rattle.search.proofs.hadamard.planes_pass.Reads as planes-pass-reads
+use Rattle.search.proofs.prefix.is_heavy.Reads as is-heavy-reads
+use Rattle.search.proofs.prefix.+branch+extend+grow.{statement}
+use Rattle.search.proofs.prefix.+branch+extend+grow.Tie.{close}
+
+abbrev thrice : ℕ → ℕ
+thrice d = d + d + d
+
+abbrev μ-branch : Measures 3 branch-kinds.ps ℕ
+μ-branch κs a = thrice (a .1 .1 .0 - a .1 .1 .1 .1 .1 .1 .0) + 1
+
+abbrev μ-extend : Measures 3 extend-kinds.ps ℕ
+μ-extend κs a = thrice (a .1 .1 .0 - a .1 .1 .1 .1 .1 .1 .0) + 2
+
+abbrev μ-grow : Measures 3 grow-kinds.ps ℕ
+μ-grow κs a = thrice (a .1 .1 .0 - a .1 .1 .1 .1 .1 .1 .0)
+
+abbrev branch-at : ℕ → In 3 branch-kinds.ps
+branch-at t = and 3 branch-kinds.ps (is 3 branch-kinds.ps μ-branch t) branch.Pre
+
+abbrev branch-below : ℕ → In 3 branch-kinds.ps
+branch-below t = and 3 branch-kinds.ps (falls 3 branch-kinds.ps _<_ μ-branch t) branch.Pre
+
+abbrev extend-at : ℕ → In 3 extend-kinds.ps
+extend-at t = and 3 extend-kinds.ps (is 3 extend-kinds.ps μ-extend t) extend.Pre
+
+abbrev extend-below : ℕ → In 3 extend-kinds.ps
+extend-below t = and 3 extend-kinds.ps (falls 3 extend-kinds.ps _<_ μ-extend t) extend.Pre
+
+abbrev grow-at : ℕ → In 3 grow-kinds.ps
+grow-at t = and 3 grow-kinds.ps (is 3 grow-kinds.ps μ-grow t) grow.Pre
+
+abbrev grow-below : ℕ → In 3 grow-kinds.ps
+grow-below t = and 3 grow-kinds.ps (falls 3 grow-kinds.ps _<_ μ-grow t) grow.Pre
+
+abbrev branch-given : ℕ → branch-lts.Claims
+branch-given t = (is-next-reads.Asked, is-next-reads.Learnt, grow-below t, grow.Post)
+
+abbrev grow-given : ℕ → grow-lts.Claims
+grow-given t = (
+  is-heavy-reads.Asked,
+  is-heavy-reads.Learnt,
+  planes-pass-reads.Asked,
+  planes-pass-reads.Learnt,
+  finish-reads.Asked,
+  finish-reads.Learnt,
+  extend-below t,
+  extend.Post,
+)
+
+abbrev extend-given : ℕ → extend-lts.Claims
+extend-given t = (last-letter-reads.Asked, last-letter-reads.Learnt, branch-below t, branch.Post)
+
+branch-is-next-requires : (t : ℕ) → branch-lts.Need-is-next-requires (branch-given t) (branch-at t) branch.Post
+branch-is-next-requires t c κs =
+    let s = c .before in
+    depth-inside (s .pre .1 .0)
+
+branch-returns : (t : ℕ) → branch-lts.Need-returns (branch-given t) (branch-at t) branch.Post
+branch-returns t c =
+    let s = c .before .before .before in
+    branch-left (s .pre .1 .0) (s .pre .1 .1)
+    (stand-not-next _ _ _ _ (sym (c .before .is-next .ensures) ∙ not-true (c .before .is-next .result) (c .if1 .taken)))
+
+branch-grow-requires : (t : ℕ) → branch-lts.Need-grow-requires (branch-given t) (branch-at t) branch.Post
+branch-grow-requires t c κs =
+    let s = c .before .before .before in
+    let next = c .before .is-next in
+    let same : thrice (s .args .n - s .args .depth) + 1 ≡ t = s .pre .0 in
+    let less : thrice (s .args .n - s .args .depth) < t = omega arith in
+    (less, (s .pre .1 .0, s .pre .1 .1, sym (next .ensures) ∙ not-false (next .result) (c .if1 .left), s .pre .1 .2))
+
+branch-returns-2 : (t : ℕ) → branch-lts.Need-returns-2 (branch-given t) (branch-at t) branch.Post
+branch-returns-2 t c = c .grow .ensures
+
+-- the letter may stand behind the prefix
+abbrev Stands : (t : ℕ) → grow-lts.Start (grow-given t) (grow-at t) grow.Post → Type 0
+Stands t s = mayStand (s .args .p) (s .args .n) (take (s .args .depth) (s .args .prefix)) (s .args .a) ≡ true
+
+grow-add-next : (t : ℕ) → grow-lts.Need-add-next (grow-given t) (grow-at t) grow.Post
+grow-add-next t c = search needs
+
+grow-element-copy-out-total : (t : ℕ) → grow-lts.Need-element-copy-out-total (grow-given t) (grow-at t) grow.Post
+grow-element-copy-out-total t c = search needs
+
+grow-cast-total : (t : ℕ) → grow-lts.Need-cast-total (grow-given t) (grow-at t) grow.Post
+grow-cast-total t c =
+    let s = c .before .before in
+    record { fits = omega (arith, letter-small (s .pre .1 .0) (s .pre .1 .1)) }
+
+grow-add-total : (t : ℕ) → grow-lts.Need-add-total (grow-given t) (grow-at t) grow.Post
+grow-add-total t c =
+    let s = c .before .before in
+    record { fits = omega (arith, letter-small (s .pre .1 .0) (s .pre .1 .1), count-small (s .pre .1 .0)) }
+
+grow-sub-is-heavy : (t : ℕ) → grow-lts.Need-sub-is-heavy (grow-given t) (grow-at t) grow.Post
+grow-sub-is-heavy t c = search needs
+
+grow-cast-is-heavy : (t : ℕ) → grow-lts.Need-cast-is-heavy (grow-given t) (grow-at t) grow.Post
+grow-cast-is-heavy t c =
+    let s = c .before .before in
+    record { fits = omega (arith, s .pre .1 .0 .brief .most) }
+
+grow-mul-is-heavy : (t : ℕ) → grow-lts.Need-mul-is-heavy (grow-given t) (grow-at t) grow.Post
+grow-mul-is-heavy t c =
+    let s = c .before .before in
+    record { fits = lt-of-le-of-lt (bound-small (s .pre .1 .0)) (lit< tt) }
+
+grow-add-is-heavy : (t : ℕ) → grow-lts.Need-add-is-heavy (grow-given t) (grow-at t) grow.Post
+grow-add-is-heavy t c =
+    let s = c .before .before in
+    record { fits = omega (arith, letter-small (s .pre .1 .0) (s .pre .1 .1), count-small (s .pre .1 .0), bound-small (s .pre .1 .0)) }
+
+grow-is-heavy-requires : (t : ℕ) → grow-lts.Need-is-heavy-requires (grow-given t) (grow-at t) grow.Post
+grow-is-heavy-requires t c κs = search needs
+
+grow-returns : (t : ℕ) → grow-lts.Need-returns (grow-given t) (grow-at t) grow.Post
+grow-returns t c =
+    let s = c .before .before .before .before in
+    branch-heavy (s .pre .1 .0) (s .pre .1 .1) (sym (c .before .is-heavy .ensures) ∙ c .if1 .taken)
+
+grow-array-write-row : (t : ℕ) → grow-lts.Need-array-write-row (grow-given t) (grow-at t) grow.Post
+grow-array-write-row t c =
+    let s = c .before .before .before .before in
+    depth-inside (s .pre .1 .0)
+
+grow-planes-pass-requires : (t : ℕ) → grow-lts.Need-planes-pass-requires (grow-given t) (grow-at t) grow.Post
+grow-planes-pass-requires t c κs =
+    let s = c .before .before .before .before in
+    (depth-inside (s .pre .1 .0), in-field-next (s .pre .1 .0) (s .pre .1 .1), s .pre .1 .3)
+
+grow-returns-2 : (t : ℕ) → grow-lts.Need-returns-2 (grow-given t) (grow-at t) grow.Post
+grow-returns-2 t c =
+    let s = c .before .before .before .before .before .before in
+    branch-left (s .pre .1 .0) (s .pre .1 .1)
+    (stand-not-planes _ _ _ _ (depth-fits (s .pre .1 .0)) _ (sym (c .before .planes-pass .ensures) ∙ not-true (c .before .planes-pass .result) (c .if2 .taken)))
+
+-- the letter may stand there
+stands : (t : ℕ) (c : grow-lts.Else2 (grow-given t) (grow-at t) grow.Post) → Stands t (c .before .before .before .before .before .before)
+stands t c =
+    let s = c .before .before .before .before .before .before in
+    stand-both _ _ _ _ (depth-fits (s .pre .1 .0)) _ (s .pre .1 .2)
+    (sym (c .before .planes-pass .ensures) ∙ not-false (c .before .planes-pass .result) (c .if2 .left))
+
+grow-finish-requires : (t : ℕ) → grow-lts.Need-finish-requires (grow-given t) (grow-at t) grow.Post
+grow-finish-requires t c κs =
+    let s = c .before .before .before .before .before .before .before in
+    (whole-next (s .pre .1 .0) (s .pre .1 .1) (stands t (c .before)) (c .if3 .taken), s .pre .1 .0 .holds, s .pre .1 .3)
+
+grow-extend-requires : (t : ℕ) → grow-lts.Need-extend-requires (grow-given t) (grow-at t) grow.Post
+grow-extend-requires t c κs =
+    let s = c .before .before .before .before .before .before .before in
+    let n = s .args .n in
+    let depth = s .args .depth in
+    let inside : depth < n = s .pre .1 .0 .inside in
+    let same : thrice (n - depth) ≡ t = s .pre .0 in
+    let less : thrice (n - (depth + 1)) + 2 < t = omega arith in
+    (less, (at-next (s .pre .1 .0) (s .pre .1 .1) (stands t (c .before)) (c .if3 .left), s .pre .1 .3))
+
+grow-returns-3 : (t : ℕ) → grow-lts.Need-returns-3 (grow-given t) (grow-at t) grow.Post
+grow-returns-3 t c =
+    let s = c .before .before .before .before .before .before .before .before in
+    c .finish .ensures
+    ∙ ap (kept (s .args .p) (s .args .n))
+    (branch-whole (s .pre .1 .0) (s .pre .1 .1) (stands t (c .before .before)) (c .before .if3 .taken)
+    (sym (c .before .before .before .before .before .is-heavy .ensures) ∙ c .before .before .before .before .if1 .left))
+
+grow-returns-4 : (t : ℕ) → grow-lts.Need-returns-4 (grow-given t) (grow-at t) grow.Post
+grow-returns-4 t c =
+    let s = c .before .before .before .before .before .before .before .before in
+    let a = s .args in
+    c .extend .ensures
+    ∙ ap (λ l. kept (a .p) (a .n) (keepAll (tried (hadamardCuts (a .p) (a .n)) (a .p) (a .n)) (keyOf (a .p) (a .n)) (bestAs (a .n) (a .best)) (completions (a .letters .now) l (a .n - (a .depth + 1)))))
+    (prefix-next (s .pre .1 .0) (s .pre .1 .1))
+
+abbrev extend-Inv-loop : extend-lts.InvT-loop
+extend-Inv-loop p products n letters counts least depth prefix count held₀ i₀ held i = (i ≤ length letters) × (held ≡ kept p n (branches (tried (hadamardCuts p n) p n) (keyOf p n) letters (take depth prefix) (n - (depth + 1)) (bestAs n held₀) (take i letters)))
+
+abbrev extend-μ-loop : extend-lts.MeasureT-loop
+extend-μ-loop p products n letters counts least depth prefix count held₀ i₀ held i = length letters - i
+
+extend-add-if1 : (t : ℕ) → extend-lts.Need-add-if1 (extend-given t) (extend-at t) extend.Post extend-Inv-loop extend-μ-loop
+extend-add-if1 t c = search needs
+
+extend-last-letter-requires : (t : ℕ) → extend-lts.Need-last-letter-requires (extend-given t) (extend-at t) extend.Post extend-Inv-loop extend-μ-loop
+extend-last-letter-requires t c κs =
+    let s = c .before .before in
+    omega (arith, s .pre .1 .0 .inside, s .pre .1 .0 .brief .most)
+
+extend-cast-if2 : (t : ℕ) → extend-lts.Need-cast-if2 (extend-given t) (extend-at t) extend.Post extend-Inv-loop extend-μ-loop
+extend-cast-if2 t c = search needs
+
+extend-element-copy-out-if2 : (t : ℕ) → extend-lts.Need-element-copy-out-if2 (extend-given t) (extend-at t) extend.Post extend-Inv-loop extend-μ-loop
+extend-element-copy-out-if2 t c = search needs
+
+extend-returns : (t : ℕ) → extend-lts.Need-returns (extend-given t) (extend-at t) extend.Post extend-Inv-loop extend-μ-loop
+extend-returns t c =
+    let s = c .before .before .before .before .before in
+    let x = c .before .before .last-letter in
+    last-left (s .pre .1 .0) (c .before .before .before .if1 .taken) (x .result) (omega (arith, x .ok)) (only-last _ _ _ (x .result) (x .ensures)) (c .if2 .taken)
+
+extend-branch-requires : (t : ℕ) → extend-lts.Need-branch-requires (extend-given t) (extend-at t) extend.Post extend-Inv-loop extend-μ-loop
+extend-branch-requires t c κs =
+    let s = c .before .before .before .before .before in
+    let x = c .before .before .last-letter in
+    let n = s .args .n in
+    let depth = s .args .depth in
+    let same : thrice (n - depth) + 2 ≡ t = s .pre .0 in
+    let less : thrice (n - depth) + 1 < t = omega arith in
+    let letter = last-taken (s .pre .1 .0) (c .before .before .before .if1 .taken) (x .result) (omega (arith, x .ok)) (only-last _ _ _ (x .result) (x .ensures)) (c .if2 .left) in
+    (less, (s .pre .1 .0, letter, s .pre .1 .1))
+
+extend-returns-2 : (t : ℕ) → extend-lts.Need-returns-2 (extend-given t) (extend-at t) extend.Post extend-Inv-loop extend-μ-loop
+extend-returns-2 t c =
+    let s = c .before .before .before .before .before .before in
+    let x = c .before .before .before .last-letter in
+    last-row (s .pre .1 .0) (c .before .before .before .before .if1 .taken) (x .result) (omega (arith, x .ok)) (only-last _ _ _ (x .result) (x .ensures)) (c .before .if2 .left) (c .branch .result) (c .branch .ensures)
+
+extend-loop-holds : (t : ℕ) → extend-lts.Need-loop-holds (extend-given t) (extend-at t) extend.Post extend-Inv-loop extend-μ-loop
+extend-loop-holds t c =
+    let s = c .before .before in
+    (zero-le, upto-none (s .pre .1 .0))
+
+extend-shared-slice-read-a : (t : ℕ) → extend-lts.Need-shared-slice-read-a (extend-given t) (extend-at t) extend.Post extend-Inv-loop extend-μ-loop
+extend-shared-slice-read-a t c = search needs
+
+extend-branch-requires-2 : (t : ℕ) → extend-lts.Need-branch-requires-2 (extend-given t) (extend-at t) extend.Post extend-Inv-loop extend-μ-loop
+extend-branch-requires-2 t c κs =
+    let s = c .before .before .before .before .before in
+    let n = s .args .n in
+    let depth = s .args .depth in
+    let at = c .before .before .loop in
+    let long : length (s .args .best .row) ≡ 8 = search (needs, s .good .1 .1 .1 .1 .1 .1 .1 .1 .1 .0) in
+    let same : thrice (n - depth) + 2 ≡ t = s .pre .0 in
+    let less : thrice (n - depth) + 1 < t = omega arith in
+    let letter = upto-letter (s .pre .1 .0) (c .before .before .before .if1 .left) (at .i) (c .before .loop-test .taken) in
+    (less, (upto-at (s .pre .1 .0) long (at .i) (at .held) (at .inv .1), letter, s .pre .1 .1))
+
+extend-add-i : (t : ℕ) → extend-lts.Need-add-i (extend-given t) (extend-at t) extend.Post extend-Inv-loop extend-μ-loop
+extend-add-i t c = search needs
+
+extend-loop-less : (t : ℕ) → extend-lts.Need-loop-less (extend-given t) (extend-at t) extend.Post extend-Inv-loop extend-μ-loop
+extend-loop-less t c = search needs
+
+extend-loop-again : (t : ℕ) → extend-lts.Need-loop-again (extend-given t) (extend-at t) extend.Post extend-Inv-loop extend-μ-loop
+extend-loop-again t c =
+    let s = c .before .before .before .before .before .before in
+    let at = c .before .before .before .loop in
+    let less = c .before .before .loop-test .taken in
+    let long : length (s .args .best .row) ≡ 8 = search (needs, s .good .1 .1 .1 .1 .1 .1 .1 .1 .1 .0) in
+    (omega (arith, less), upto-more (s .pre .1 .0) long (at .i) (at .held) (at .inv .1) less (c .branch2 .result) (c .branch2 .ensures))
+
+extend-returns-3 : (t : ℕ) → extend-lts.Need-returns-3 (extend-given t) (extend-at t) extend.Post extend-Inv-loop extend-μ-loop
+extend-returns-3 t c =
+    let s = c .before .before .before .before in
+    let at = c .before .loop in
+    let all : at .i ≡ length (s .args .letters .now) = omega arith in
+    upto-all (s .pre .1 .0) (at .i) all (at .held) (at .inv .1)
+
+pub +branch+extend+grow-spec : {M : Type 1} → statement M
++branch+extend+grow-spec = close μ-branch μ-extend μ-grow (λ t. branch-lts.spec (branch-given t)
+    (branch-at t)
+    branch.Post
+    (branch-is-next-requires t)
+    (branch-returns t)
+    (branch-grow-requires t)
+    (branch-returns-2 t))
+    (λ t. extend-lts.spec (extend-given t)
+    (extend-at t)
+    extend.Post
+    extend-Inv-loop
+    extend-μ-loop
+    (extend-add-if1 t)
+    (extend-last-letter-requires t)
+    (extend-cast-if2 t)
+    (extend-element-copy-out-if2 t)
+    (extend-returns t)
+    (extend-branch-requires t)
+    (extend-returns-2 t)
+    (extend-loop-holds t)
+    (extend-shared-slice-read-a t)
+    (extend-branch-requires-2 t)
+    (extend-add-i t)
+    (extend-loop-less t)
+    (extend-loop-again t)
+    (extend-returns-3 t))
+    λ t. grow-lts.spec
+    (grow-given t)
+    (grow-at t)
+    grow.Post
+    (grow-add-next t)
+    (grow-element-copy-out-total t)
+    (grow-cast-total t)
+    (grow-add-total t)
+    (grow-sub-is-heavy t)
+    (grow-cast-is-heavy t)
+    (grow-mul-is-heavy t)
+    (grow-add-is-heavy t)
+    (grow-is-heavy-requires t)
+    (grow-returns t)
+    (grow-array-write-row t)
+    (grow-planes-pass-requires t)
+    (grow-returns-2 t)
+    (grow-finish-requires t)
+    (grow-extend-requires t)
+    (grow-returns-3 t)
+    (grow-returns-4 t)
