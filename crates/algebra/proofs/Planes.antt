@@ -308,15 +308,19 @@ module _ (K : Operations) (L : Field K) (n : ℕ) (h : ℕ → K .Element) (diff
           ordered ⊥ c d cd (λ (l : c < d). in-order s t c d st l lt ld same td f)
           (λ (l : d < c). in-order s t d c st l lt lc (same ∙ xor-comm c d) tc (f ∙ L .times-comm (h c) (h d)))
 
--- ---- small determinants
+-- ---- small determinants, where 0 is neutral and 1 is neutral to the entries of the last line
 
-module _ (K : Operations) (L : Field K) (f : ℕ → ℕ → K .Element) where
+module _ (K : Operations) (neutral : (a : K .Element) → K .plus (K .null) a ≡ a) (f : ℕ → ℕ → K .Element) where
   -- of size 1: the entry
-  pub det-one : det K 1 f ≡ f 0 0
+  pub det-one : K .times (f 0 0) (K .one) ≡ f 0 0 → det K 1 f ≡ f 0 0
   unfolding det sum
-  det-one = simp (null-plus K L, L .times-one)
+  det-one e = neutral (K .times (f 0 0) (K .one)) ∙ e
 
   -- of size 2: the sum of the two products
-  pub det-two : det K 2 f ≡ K .plus (K .times (f 0 0) (f 1 1)) (K .times (f 0 1) (f 1 0))
+  pub det-two : K .times (f 1 0) (K .one) ≡ f 1 0 → K .times (f 1 1) (K .one) ≡ f 1 1
+      → det K 2 f ≡ K .plus (K .times (f 0 0) (f 1 1)) (K .times (f 0 1) (f 1 0))
   unfolding det sum without skip
-  det-two = simp (null-plus K L, L .times-one) (ap (λ z. K .plus z (K .times (f 0 1) (f 1 0))) (null-plus K L (K .times (f 0 0) (f 1 1))))
+  det-two e d =
+      ap₂ (K .plus)
+      (neutral _ ∙ ap (K .times (f 0 0)) (neutral (K .times (f 1 1) (K .one)) ∙ d))
+      (ap (K .times (f 0 1)) (neutral (K .times (f 1 0) (K .one)) ∙ e))

@@ -7,6 +7,7 @@ use native.Mathlib.Decide.{decLt}
 use native.Mathlib.Omega.{arith}
 use lib.ListN.{length, getD, set, length-set}
 use lib.Seq.{getD-set-same, getD-set-other}
+use borrow.Author.Count.{below-more}
 use borrow.Author.Tests.{lt-ltb, le-ltb}
 use Rattle.field.specs.Polynomial.{degree, product, Products, productAt}
 use Rattle.field.proofs.Field.{times-zero-r}
@@ -29,6 +30,12 @@ looked-up p a b table la lb l h =
     let low : (a * 256 + b) % 256 ≡ b = omega arith in
     h (a * 256 + b) (omega arith) ∙ entry-element p (a * 256 + b) (rw high l) ∙ ap₂ (product p) high low
 
+-- an array filled up to place k: one more store keeps what is there, and adds place k
+pub entries-more : {A : Type 0} (P : ℕ → A → Type 0) (r : List A) (k : ℕ) (a d : A) → k < length r → ((i : ℕ) → i < k → P i (getD r i d)) → P k a
+    → (i : ℕ) → i < k + 1 → P i (getD (set r k a) i d)
+entries-more P r k a d h before now =
+    below-more (λ i. P i (getD (set r k a) i d)) k (λ i l. rw (getD-set-other r k i a d (λ e. omega arith)) (before i l)) (rw (getD-set-same r k a d h) now)
+
 -- the table that has its first i entries, and 0 behind them
 pub record Filled (p i : ℕ) (table : List ℕ) : Type 0 where
   pub size : length table ≡ 65536
@@ -45,12 +52,7 @@ pub filled-more : (p i : ℕ) (table : List ℕ) → i < 65536 → i / 256 < 2 ^
 filled-more p i table l e f v is =
     record {
       size = length-set table i v ∙ f .size;
-      entries = λ j m. elim (decLt j i) [
-        | yes h ↦ getD-set-other table i j v 0 (λ (q : j ≡ i). omega arith) ∙ f .entries j h
-        | no h ↦
-            let here : j ≡ i = omega arith in
-            rw here (getD-set-same table i v 0 (omega (arith, f .size)) ∙ is ∙ sym (entry-element p i e))
-      ];
+      entries = entries-more (λ j x. x ≡ productAt p j) table i v 0 (omega (arith, f .size)) (f .entries) (is ∙ sym (entry-element p i e));
       behind = λ j m q. getD-set-other table i j v 0 (λ (e : j ≡ i). omega arith) ∙ f .behind j (omega arith) q;
     }
 

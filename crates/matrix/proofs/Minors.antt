@@ -5,11 +5,9 @@ use Prim.Native.Nat.{ℕ, zero, suc, _+_, _-_, _^_, _≤_, _<_}
 use native.Mathlib.Nat.{not-suc-le-zero, le-of-suc-le-suc, zero-lt-suc}
 use native.Mathlib.Numerals.{add-one}
 use native.Mathlib.Omega.{arith}
-use borrow.Author.Count.{below-more}
-use lib.ListN.{length, getD, set}
-use lib.Seq.{getD-set-same, getD-set-other}
 use lib.Bits.{bitXor}
 use Rattle.algebra.specs.Matrix.{sum, skip, without, det}
+use Rattle.algebra.proofs.Planes.{det-one, det-two}
 use Rattle.algebra.proofs.Bridge.{skip-lt, det-cong}
 use Rattle.field.specs.Polynomial.{degree, overDigits, digitsWithin, rem, _⊗_, product, _⊕_}
 use Rattle.field.proofs.Sum.{sum-zero-l}
@@ -34,12 +32,6 @@ unfolding skip
 skip-behind zero k l = refl
 skip-behind (suc j) zero l = absurd (not-suc-le-zero l)
 skip-behind (suc j) (suc k) l = ap suc (skip-behind j k (le-of-suc-le-suc l))
-
--- a list filled up to place k: one more store keeps what is there, and adds place k
-pub stored-more : {A : Type 0} (P : ℕ → A → Type 0) (r : List A) (k : ℕ) (a d : A) → k < length r → ((i : ℕ) → i < k → P i (getD r i d)) → P k a
-    → (i : ℕ) → i < k + 1 → P i (getD (set r k a) i d)
-stored-more P r k a d h before now =
-    below-more (λ i. P i (getD (set r k a) i d)) k (λ i l. rw (getD-set-other r k i a d (λ e. omega arith)) (before i l)) (rw (getD-set-same r k a d h) now)
 
 -- ---- the determinant
 
@@ -77,17 +69,12 @@ times-one (suc p) a l = times-one-r (suc p) (degree (suc p)) (has-degree (suc p)
 
 -- of a single entry
 pub det-single : (p : ℕ) (f : ℕ → ℕ → ℕ) → f 0 0 < 2 ^ degree p → f 0 0 ≡ det (numbers p) 1 f
-unfolding det sum
-det-single p f l = sym (sum-zero-l (product p (f 0 0) 1) ∙ times-one p (f 0 0) l)
+det-single p f l = sym (det-one (numbers p) sum-zero-l f (times-one p (f 0 0) l))
 
 -- of two lines
-pub det-two : (p : ℕ) (f : ℕ → ℕ → ℕ) → f 1 0 < 2 ^ degree p → f 1 1 < 2 ^ degree p
+pub det-pair : (p : ℕ) (f : ℕ → ℕ → ℕ) → f 1 0 < 2 ^ degree p → f 1 1 < 2 ^ degree p
     → product p (f 0 0) (f 1 1) ⊕ product p (f 0 1) (f 1 0) ≡ det (numbers p) 2 f
-unfolding det sum without skip
-det-two p f l m =
-    ap₂ _⊕_
-    (ap (product p (f 0 0)) (det-single p (without f 0) m) ∙ sym (sum-zero-l (product p (f 0 0) (det (numbers p) 1 (without f 0)))))
-    (ap (product p (f 0 1)) (det-single p (without f 1) l))
+det-pair p f l m = sym (det-two (numbers p) sum-zero-l f (times-one p (f 1 0) l) (times-one p (f 1 1) m))
 
 -- of lines 1 and 2 in columns i and j
 abbrev pub lowerMinor : ℕ → (ℕ → ℕ → ℕ) → ℕ → ℕ → ℕ
@@ -100,10 +87,10 @@ unfolding det sum without skip
 det-three p f below =
     ap₂ _⊕_
     (ap₂ _⊕_
-    (ap (product p (f 0 0)) (det-two p (without f 0) (below 1 (omega arith)) (below 2 (omega arith)))
+    (ap (product p (f 0 0)) (det-pair p (without f 0) (below 1 (omega arith)) (below 2 (omega arith)))
     ∙ sym (sum-zero-l (product p (f 0 0) (det (numbers p) 2 (without f 0)))))
-    (ap (product p (f 0 1)) (det-two p (without f 1) (below 0 (omega arith)) (below 2 (omega arith)))))
-    (ap (product p (f 0 2)) (det-two p (without f 2) (below 0 (omega arith)) (below 1 (omega arith))))
+    (ap (product p (f 0 1)) (det-pair p (without f 1) (below 0 (omega arith)) (below 2 (omega arith)))))
+    (ap (product p (f 0 2)) (det-pair p (without f 2) (below 0 (omega arith)) (below 1 (omega arith))))
 
 -- the entries of the block left are elements
 pub minor-in-field : (p n j : ℕ) (block r : List (List ℕ)) → 1 ≤ n → n ≤ 8 → InField p n n block

@@ -17,6 +17,7 @@ use Rattle.algebra.specs.Operations.{Operations}
 use Rattle.algebra.specs.Matrix.{sum, hadamard, isMds, block, chosen}
 use Rattle.algebra.proofs.FieldLaws.{Field}
 use Rattle.algebra.proofs.Involution.{and-left, and-right}
+use Rattle.algebra.proofs.Laws.{null-plus}
 use Rattle.algebra.proofs.Sums.{equal-of-sum}
 use Rattle.algebra.proofs.Xor.{xor-xor, xor-cancel, xor-exchange}
 use Rattle.algebra.proofs.Choices.{chosen-lt, chosen-ascends}
@@ -32,7 +33,7 @@ use Rattle.matrix.proofs.Squares.{every-each, Singular, regular-of, bri
 -- ---- the planes of order 8, by a computed test
 
 -- the fourth place of the plane's coset through a, b and d
-abbrev fourth : ℕ → ℕ → ℕ → ℕ
+abbrev pub fourth : ℕ → ℕ → ℕ → ℕ
 fourth a b d = bitXor (bitXor a b) d
 
 -- the four places
@@ -169,13 +170,12 @@ module _ (p : ℕ) (h : Modulus p) where
       unfolding block hadamard
       one-regular positive = regular-as-elements 1 (λ b.
           let l : place 0 0 < 2 ^ k = xor-lt k (line 0) (column 0) (chosen-lt (2 ^ k) r 0 (omega (arith, b .lines))) (chosen-lt (2 ^ k) s 0 (omega (arith, b .columns))) in
-          let z : entry (place 0 0) ≡ R .null = sym (det-one R L cut) ∙ L .is-null _ (b .null) in
+          let z : entry (place 0 0) ≡ R .null = sym (det-one R (null-plus R L) cut (L .times-one _)) ∙ L .is-null _ (b .null) in
           omega (arith, positive (place 0 0) l, word p h k row below (place 0 0) l, ap (number p) z))
 
       -- different entries, and different products of the entries at two pairs of places of a plane, d the largest: so are those of two lines
       pub two-regular : ((i j : ℕ) → i < 2 ^ k → j < 2 ^ k → getD row i 0 ≡ getD row j 0 → i ≡ j)
-          → ((a b d : ℕ) → a < b → b < d → d < 2 ^ k → bitXor (bitXor a b) d < d
-          → product p (getD row a 0) (getD row b 0) ≡ product p (getD row (bitXor (bitXor a b) d) 0) (getD row d 0) → ⊥)
+          → ProductsDiffer (numbers p) (2 ^ k) (λ i. getD row i 0)
           → isRegularBlock (numbers p) (2 ^ k) (hadamard (numbers p) row) 2 r s ≡ true
       unfolding block hadamard
       two-regular different apart = regular-as-elements 2 at
@@ -201,7 +201,7 @@ module _ (p : ℕ) (h : Modulus p) where
               (xor-exchange (line 0) (column 0) (line 1) (column 1))
               (λ q. omega (arith, xor-cancel (line 0) (column 0) (column 1) q))
               (λ q. omega (arith, xor-cancel (column 0) (line 0) (line 1) (xor-comm (column 0) (line 0) ∙ q ∙ xor-comm (line 1) (column 0))))
-              (equal-of-sum R L _ _ (sym (det-two R L cut) ∙ L .is-null _ (b .null)))
+              (equal-of-sum R L _ _ (sym (det-two R (null-plus R L) cut (L .times-one _) (L .times-one _)) ∙ L .is-null _ (b .null)))
 
   -- ---- sums over four places, order 8
 

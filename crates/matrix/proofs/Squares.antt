@@ -1,6 +1,6 @@
 -- MDS by square blocks, over any field: all of them; for an involution those up to half the order. Which choices of columns are looked
 -- at, and from which size on, is open. Assumes nothing.
-use mathlib.Core.Path.{_≡_, refl, sym, ap, _∙_}
+use mathlib.Core.Path.{_≡_, refl, sym, ap, ap₂, _∙_}
 use mathlib.Core.Bool.{Bool, true, false, not, _&&_, _||_, false≢true, true≢false}
 use mathlib.Core.List.{List, List·Memᴰ}
 use mathlib.Core.Logic.{⊎-elim}
@@ -9,7 +9,8 @@ use native.Mathlib.Nat.{not-suc-le-zero, le-of-suc-le-suc, le-refl, le-suc, le-t
 use native.Mathlib.Omega.{arith}
 use lib.Dec.{eqb, ltb}
 use lib.ListN.{length, getD}
-use borrow.Author.Tests.{ltb-false, le-ltb, eqb-true, eq-eqb, not-false}
+use borrow.Author.Count.{below-more}
+use borrow.Author.Tests.{ltb-false, le-ltb, eqb-true, eq-eqb, not-true, not-false}
 use Rattle.algebra.specs.Operations.{Operations}
 use Rattle.algebra.proofs.FieldLaws.{Field}
 use Rattle.algebra.specs.Matrix.{det, weight, activity, isMds, isInvolution, block, chosen}
@@ -67,6 +68,20 @@ or-of false t h = h refl
 -- and the other way round
 of-or : (a t : Bool) → (a || t) ≡ true → a ≡ false → t ≡ true
 of-or a t e q = rw q at e
+
+-- a loop over them stops at one that fails, and goes on at one that passes
+module _ (test : ℕ → Bool) (k : ℕ) (t : Bool) (is : t ≡ test k) where
+  pub every-stops : (n : ℕ) → k < n → not t ≡ true → false ≡ everyBelow n test
+  every-stops n l e = every-not n test k l (sym is ∙ not-true t e)
+
+  pub every-goes : ((j : ℕ) → j < k → test j ≡ true) → not t ≡ false → (j : ℕ) → j < k + 1 → test j ≡ true
+  every-goes h e = below-more (λ j. test j ≡ true) k h (sym is ∙ not-false t e)
+
+-- tests that agree below n
+pub every-same : (n : ℕ) (f g : ℕ → Bool) → ((k : ℕ) → k < n → f k ≡ g k) → everyBelow n f ≡ everyBelow n g
+unfolding everyBelow
+every-same zero f g h = refl
+every-same (suc n) f g h = ap₂ _&&_ (every-same n f g (λ k l. h k (omega arith))) (h n (omega arith))
 
 -- ---- the test of one block
 

@@ -19,7 +19,8 @@ use Rattle.algebra.specs.Matrix.{sum, hadamard, isMds, words}
 use Rattle.algebra.proofs.Involution.{and-left, and-right}
 use Rattle.algebra.proofs.Sums.{sum-cong}
 use Rattle.algebra.proofs.Symmetry.{same-bool}
-use Rattle.field.specs.Polynomial.{_⊕_, Modulus, degree, product}
+use Rattle.algebra.proofs.Planes.{ProductsDiffer}
+use Rattle.field.specs.Polynomial.{_⊕_, Modulus, degree}
 use Rattle.field.proofs.Sum.{sum-comm, sum-cancel}
 use Rattle.matrix.specs.Numbers.{numbers, elements, entry, InField, WordsInField, HalvingOrder}
 use Rattle.field.specs.Steps.{everyBelow}
@@ -27,7 +28,7 @@ use Rattle.matrix.specs.Steps.Blocks.{framed}
 use Rattle.matrix.proofs.Filled.{entry-of, xor-sum}
 use Rattle.matrix.specs.Steps.Regular.{isRegularBlock, regularBetween}
 use Rattle.matrix.proofs.Squares.{every-each, each-every, sizes-known}
-use Rattle.matrix.proofs.Planes.{plane-sum, plane-products, one-regular, two-regular}
+use Rattle.matrix.proofs.Planes.{fourth, plane-sum, plane-products, one-regular, two-regular}
 use Rattle.search.specs.Lightest.{nothing, member, ascending, lightest}
 use Rattle.search.specs.Shape.{isGood, hadamardShape}
 use Rattle.search.specs.Answer.{keyOf, lightestRow}
@@ -40,7 +41,7 @@ use Rattle.search.proofs.IndexMaps.{canonical-four, canonical-eight}
 use Rattle.search.proofs.LetterCounts.{member-snoc}
 use Rattle.search.proofs.HadamardRows.{Power, power, good-mds, good-sum, good-positive, good-different, good-regular, regular-same, word-in-field, canonical-lightest}
 use Rattle.search.proofs.Pruning.{OnlyLast, stands-front, tried-stands}
-use Rattle.search.proofs.PlaneCuts.{fourth, SingularPlane, planeSum, plane-regular, planes-stored, planes-own, planes-each, planes-hold}
+use Rattle.search.proofs.PlaneCuts.{SingularPlane, planeSum, plane-regular, planes-stored, planes-own, planes-each, planes-hold}
 
 -- ---- the orders
 
@@ -170,8 +171,7 @@ module _ (p n : ℕ) (row : List ℕ) (d : ℕ) (fits : d < length row) where
 pub record SmallBlocks (p n : ℕ) (row : List ℕ) : Type 0 where
   pub positive : (i : ℕ) → i < n → 0 < getD row i 0
   pub different : (i j : ℕ) → i < n → j < n → getD row i 0 ≡ getD row j 0 → i ≡ j
-  pub products : (a b d : ℕ) → a < b → b < d → d < n → bitXor (bitXor a b) d < d
-      → product p (getD row a 0) (getD row b 0) ≡ product p (getD row (bitXor (bitXor a b) d) 0) (getD row d 0) → ⊥
+  pub products : ProductsDiffer (numbers p) n (λ i. getD row i 0)
 
 module _ (p n : ℕ) (row : List ℕ) (fits : n ≤ length row) (all : AllStand (hadamardCuts p n) n row) where
   -- each entry comes next by the order
@@ -240,30 +240,30 @@ only-last p n q a e = record { may = eq-eqb a (lastLetter q) e; only = λ b f. e
 -- ---- the planes of a good row
 
 -- the fourth index: it makes the exclusive or 0, and it is none of the others
-fourth-makes : (a b d : ℕ) → bitXor (bitXor a b) (fourth d b a) ≡ d
+fourth-makes : (a b d : ℕ) → bitXor (bitXor a b) (fourth a b d) ≡ d
 fourth-makes a b d = unfold _⊕_ in (sum-cancel (a ⊕ b) d)
 
-fourth-new : (a b d : ℕ) → b < d → a ≡ fourth d b a → ⊥
+fourth-new : (a b d : ℕ) → b < d → a ≡ fourth a b d → ⊥
 fourth-new a b d l e =
     let same : b ≡ d = unfold _⊕_ in (sym (sum-cancel a b) ∙ sum-comm a (a ⊕ b) ∙ ap (λ c. a ⊕ b ⊕ c) e ∙ sum-cancel (a ⊕ b) d) in
     omega arith
 
 module _ (p n : ℕ) (h : Modulus p) (o : SearchOrder n) (r : List ℕ) (inField : WordsInField p n r) (g : isGood hadamardShape p n r ≡ true) where
   -- the products differ
-  good-products : (d b a : ℕ) → a < b → b < d → d < n → fourth d b a < d → SingularPlane p r d b a → ⊥
+  good-products : (d b a : ℕ) → a < b → b < d → d < n → fourth a b d < d → SingularPlane p r d b a → ⊥
   good-products d b a l m k f =
       let two = power n o in
       let is : n ≡ 2 ^ two .k = two .is in
       plane-products p h (two .k) r (subst (λ (n : ℕ). WordsInField p n r) is inField)
       (subst (λ (n : ℕ). isMds (numbers p) (elements p) n (hadamard (numbers p) r) ≡ true) is (good-mds p n r g))
-      a b (fourth d b a) d (omega arith) (omega arith) (omega arith) (omega arith) (fourth-new a b d m) (λ (e : a ≡ d). omega arith) (fourth-makes a b d)
+      a b (fourth a b d) d (omega arith) (omega arith) (omega arith) (omega arith) (fourth-new a b d m) (λ (e : a ≡ d). omega arith) (fourth-makes a b d)
 
   -- the sums of order 8
   good-sums : (d b a : ℕ) → a < b → b < d → d < n → n ≡ 8 → 2 ≤ planeSum r d b a
   good-sums d b a l m k is =
       plane-sum p h r (subst (λ (n : ℕ). WordsInField p n r) is inField)
       (subst (λ (n : ℕ). isMds (numbers p) (elements p) n (hadamard (numbers p) r) ≡ true) is (good-mds p n r g))
-      (subst (λ (n : ℕ). sum (numbers p) n (λ i. getD r i 0) ≡ 1) is (good-sum p n h o r inField g)) a b (fourth d b a) d l m (omega arith) refl
+      (subst (λ (n : ℕ). sum (numbers p) n (λ i. getD r i 0) ≡ 1) is (good-sum p n h o r inField g)) a b (fourth a b d) d l m (omega arith) refl
 
   -- so they pass
   good-planes : (d : ℕ) → d < n → planesPass p n r d ≡ true

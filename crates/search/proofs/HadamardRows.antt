@@ -6,7 +6,6 @@ use mathlib.Core.Logic.{⊎-elim}
 use mathlib.Core.Bool.{Bool, true, false, _&&_, true≢false}
 use mathlib.Core.List.{List, List·Memᴰ}
 use Prim.Native.Nat.{ℕ, _-_, _/_, _^_, _≤_, _<_}
-use native.Mathlib.Nat.{pos-of-ne-zero}
 use native.Mathlib.Omega.{arith}
 use lib.Dec.{eqb}
 use lib.ListN.{length, getD}
@@ -18,7 +17,8 @@ use Rattle.field.specs.Polynomial.{Modulus, degree}
 use Rattle.matrix.specs.Numbers.{numbers, elements, WordsInField}
 use Rattle.matrix.specs.Steps.Regular.{regularBetween}
 use Rattle.matrix.proofs.Residues.{lift, lift-number, regular-carried}
-use Rattle.matrix.proofs.Rows.{involution-row-sum, row-sum-involution, zero-entry-not-mds, equal-entries-not-mds, half-is-enough, moved-row-mds, moved-row-involution}
+use Rattle.matrix.proofs.Rows.{involution-row-sum, row-sum-involution, equal-entries-not-mds, half-is-enough, moved-row-mds, moved-row-involution}
+use Rattle.matrix.proofs.Planes.{nonzero-entry}
 use Rattle.matrix.proofs.Tallies.{elementCount-moved}
 use Rattle.search.specs.Lightest.{ascending, lightest, rowsOver}
 use Rattle.search.specs.Steps.IndexMaps.{Move, from, moves, moved, canonical}
@@ -67,7 +67,7 @@ module _ (p : ℕ) (h : Modulus p) (k : ℕ) (row : List ℕ) (below : WordsInFi
 
   -- its entries are not 0
   positive-of : isGood hadamardShape p (2 ^ k) row ≡ true → (i : ℕ) → i < 2 ^ k → 0 < getD row i 0
-  positive-of g i l = pos-of-ne-zero (λ z. true≢false (sym (good-mds p (2 ^ k) row g) ∙ zero-entry-not-mds p h k row below i l z))
+  positive-of g = nonzero-entry p h k row below (good-mds p (2 ^ k) row g)
 
   -- its entries differ
   different-of : isGood hadamardShape p (2 ^ k) row ≡ true → (i j : ℕ) → i < 2 ^ k → j < 2 ^ k → getD row i 0 ≡ getD row j 0 → i ≡ j

@@ -1,57 +1,52 @@
 -- The test of the planes of four indices that an entry completes: what the code tests of one plane, what it depends on, and what it
 -- says of a row. Assumes nothing.
-use mathlib.Core.Path.{_≡_, refl, sym, ap, ap₂, _∙_}
-use mathlib.Core.Bool.{Bool, true, false, not, _&&_, true≢false}
+use mathlib.Core.Path.{_≡_, refl, sym, ap, _∙_}
+use mathlib.Core.Bool.{Bool, true, false, true≢false}
 use mathlib.Core.List.{List, [], _∷_, _++_}
-use Prim.Native.Nat.{ℕ, zero, suc, _+_, _≤_, _<_}
+use Prim.Native.Nat.{ℕ, suc, _≤_, _<_}
 use native.Mathlib.Decide.{decLt}
 use native.Mathlib.Omega.{arith}
-use lib.Bits.{bitXor}
 use lib.Dec.{eqb, leb}
 use lib.ListN.{length, getD, take, set}
 use lib.Seq.{take-suc, take-suc-set, getD-take}
-use borrow.Author.Count.{below-more}
-use borrow.Author.Tests.{eqb-true, eqb-false, le-leb, lt-leb, eq-eqb, ne-eqb, not-true, not-false}
+use borrow.Author.Tests.{eqb-true, eqb-false, le-leb, lt-leb, eq-eqb, ne-eqb}
 use Rattle.field.specs.Polynomial.{_⊕_, product}
 use Rattle.field.specs.Steps.{everyBelow}
-use Rattle.matrix.proofs.Squares.{every-each, each-every, every-not}
+use Rattle.matrix.proofs.Squares.{every-each, each-every, every-same}
+use Rattle.matrix.proofs.Planes.{fourth}
 use Rattle.search.specs.Steps.Hadamard.{planePasses, planesPass}
 
 -- ---- one plane
 
--- the fourth index of the plane of a, b and d
-abbrev pub fourth : ℕ → ℕ → ℕ → ℕ
-fourth d b a = bitXor (bitXor a b) d
-
 -- the entries of a and b have the product of those of the others: a block of size 2 is singular
 abbrev pub SingularPlane : ℕ → List ℕ → ℕ → ℕ → ℕ → Type 0
-SingularPlane p row d b a = product p (getD row a 0) (getD row b 0) ≡ product p (getD row (fourth d b a) 0) (getD row d 0)
+SingularPlane p row d b a = product p (getD row a 0) (getD row b 0) ≡ product p (getD row (fourth a b d) 0) (getD row d 0)
 
 -- the sum of the four entries
 abbrev pub planeSum : List ℕ → ℕ → ℕ → ℕ → ℕ
-planeSum row d b a = getD row a 0 ⊕ getD row b 0 ⊕ getD row (fourth d b a) 0 ⊕ getD row d 0
+planeSum row d b a = getD row a 0 ⊕ getD row b 0 ⊕ getD row (fourth a b d) 0 ⊕ getD row d 0
 
 module _ (p n : ℕ) (row : List ℕ) (d b a : ℕ) where
   -- another entry completes the plane
-  pub plane-later : d ≤ fourth d b a → true ≡ planePasses p n row d b a
+  pub plane-later : d ≤ fourth a b d → true ≡ planePasses p n row d b a
   unfolding planePasses
-  plane-later l = rw (le-leb d (fourth d b a) l)
+  plane-later l = rw (le-leb d (fourth a b d) l)
 
-  module _ (l : fourth d b a < d) where
+  module _ (l : fourth a b d < d) where
     -- two products are the same
     pub plane-singular : SingularPlane p row d b a → false ≡ planePasses p n row d b a
     unfolding planePasses
-    plane-singular e = rw (lt-leb d (fourth d b a) l, eq-eqb _ _ e)
+    plane-singular e = rw (lt-leb d (fourth a b d) l, eq-eqb _ _ e)
 
     -- they are not, and nothing is asked of the sum
     pub plane-small : (SingularPlane p row d b a → ⊥) → (n ≡ 8 → ⊥) → true ≡ planePasses p n row d b a
     unfolding planePasses
-    plane-small e o = rw (lt-leb d (fourth d b a) l, ne-eqb _ _ e, ne-eqb n 8 o)
+    plane-small e o = rw (lt-leb d (fourth a b d) l, ne-eqb _ _ e, ne-eqb n 8 o)
 
     -- the sum decides
     pub plane-sums : (SingularPlane p row d b a → ⊥) → n ≡ 8 → leb 2 (planeSum row d b a) ≡ planePasses p n row d b a
     unfolding planePasses
-    plane-sums e o = rw (lt-leb d (fourth d b a) l, ne-eqb _ _ e, eq-eqb n 8 o)
+    plane-sums e o = rw (lt-leb d (fourth a b d) l, ne-eqb _ _ e, eq-eqb n 8 o)
 
     -- where it passes, the products differ
     pub plane-regular : planePasses p n row d b a ≡ true → SingularPlane p row d b a → ⊥
@@ -66,8 +61,8 @@ module _ (p n : ℕ) (row : List ℕ) (d b a : ℕ) where
         go false q = sym (plane-small e (eqb-false n 8 q))
 
   -- the same of any plane
-  plane-holds : (fourth d b a < d → (SingularPlane p row d b a → ⊥) × (n ≡ 8 → 2 ≤ planeSum row d b a)) → planePasses p n row d b a ≡ true
-  plane-holds h = elim (decLt (fourth d b a) d) [
+  plane-holds : (fourth a b d < d → (SingularPlane p row d b a → ⊥) × (n ≡ 8 → 2 ≤ planeSum row d b a)) → planePasses p n row d b a ≡ true
+  plane-holds h = elim (decLt (fourth a b d) d) [
     | yes l ↦ plane-both l (h l .0) (h l .1)
     | no l ↦ sym (plane-later (omega arith))
   ]
@@ -76,26 +71,10 @@ module _ (p n : ℕ) (row : List ℕ) (d b a : ℕ) where
 plane-same : (p n : ℕ) (row row′ : List ℕ) (d b a : ℕ) → a < b → b < d → ((j : ℕ) → j ≤ d → getD row j 0 ≡ getD row′ j 0)
     → planePasses p n row d b a ≡ planePasses p n row′ d b a
 unfolding planePasses
-plane-same p n row row′ d b a l m same = elim (decLt (fourth d b a) d) [
-  | yes k ↦ rw (same a (omega arith), same b (omega arith), same (fourth d b a) (omega arith), same d (omega arith))
+plane-same p n row row′ d b a l m same = elim (decLt (fourth a b d) d) [
+  | yes k ↦ rw (same a (omega arith), same b (omega arith), same (fourth a b d) (omega arith), same d (omega arith))
   | no k ↦ sym (plane-later p n row d b a (omega arith)) ∙ plane-later p n row′ d b a (omega arith)
 ]
-
--- ---- tests of all numbers below a bound
-
--- a loop over them stops at one that fails, and goes on at one that passes
-module _ (test : ℕ → Bool) (k : ℕ) (t : Bool) (is : t ≡ test k) where
-  pub every-stops : (n : ℕ) → k < n → not t ≡ true → false ≡ everyBelow n test
-  every-stops n l e = every-not n test k l (sym is ∙ not-true t e)
-
-  pub every-goes : ((j : ℕ) → j < k → test j ≡ true) → not t ≡ false → (j : ℕ) → j < k + 1 → test j ≡ true
-  every-goes h e = below-more (λ j. test j ≡ true) k h (sym is ∙ not-false t e)
-
--- tests that agree below n
-every-same : (n : ℕ) (f g : ℕ → Bool) → ((k : ℕ) → k < n → f k ≡ g k) → everyBelow n f ≡ everyBelow n g
-unfolding everyBelow
-every-same zero f g h = refl
-every-same (suc n) f g h = ap₂ _&&_ (every-same n f g (λ k l. h k (omega arith))) (h n (omega arith))
 
 -- ---- all planes that an entry completes
 
@@ -121,7 +100,7 @@ module _ (p n : ℕ) (row : List ℕ) (d : ℕ) where
   planes-each t b a l m = every-each b (planePasses p n row d b) (every-each d (λ b. everyBelow b (planePasses p n row d b)) t b m) a l
 
   -- they pass where each does
-  pub planes-hold : ((b a : ℕ) → a < b → b < d → fourth d b a < d → (SingularPlane p row d b a → ⊥) × (n ≡ 8 → 2 ≤ planeSum row d b a))
+  pub planes-hold : ((b a : ℕ) → a < b → b < d → fourth a b d < d → (SingularPlane p row d b a → ⊥) × (n ≡ 8 → 2 ≤ planeSum row d b a))
       → planesPass p n row d ≡ true
   unfolding planesPass
   planes-hold h = each-every d _ (λ b m. each-every b _ (λ a l. plane-holds p n row d b a (h b a l m)))

@@ -4,7 +4,7 @@ use Prim.Native.Nat.{ℕ, _-_, _≤_, _<_}
 use native.Mathlib.Nat.{not-suc-le-zero}
 use native.Mathlib.Omega.{arith}
 use lib.ListN.{length, getD, length-set}
-use Rattle.matrix.proofs.Minors.{stored-more}
+use Rattle.field.proofs.ProductTable.{entries-more}
 use Rattle.answer.proofs.Found.{same-entries, six-entries}
 use borrow.Author.Needs.{needs}
 use Rattle.answer.proofs.row.widened.Statement.{statement}
@@ -43,7 +43,7 @@ loop-again c =
     let loop = c .before .before .loop in (
       search needs,
       simp length-set (loop .inv .1),
-      stored-more (λ k v. (v ≡ getD (a .t1) k 0) × (v ≤ 255)) (loop .entries) (loop .i) (c .wide .result) 0 (search needs) (loop .inv .2) (c .wide .ensures),
+      entries-more (λ k v. (v ≡ getD (a .t1) k 0) × (v ≤ 255)) (loop .entries) (loop .i) (c .wide .result) 0 (search needs) (loop .inv .2) (c .wide .ensures),
     )
 
 returns : tie.Need-returns Inv-loop μ-loop

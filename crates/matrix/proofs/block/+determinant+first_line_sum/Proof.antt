@@ -7,7 +7,7 @@ use Rattle.algebra.specs.Matrix.{without, det}
 use Rattle.field.specs.Polynomial.{degree}
 use Rattle.matrix.specs.Numbers.{numbers, entry, InField}
 use Rattle.matrix.proofs.Filled.{entry-of}
-use Rattle.matrix.proofs.Minors.{firstLine, first-line-none, first-line-more, first-line-all, det-none, det-single, det-two, minor-in-field}
+use Rattle.matrix.proofs.Minors.{firstLine, first-line-none, first-line-more, first-line-all, det-none, det-single, det-pair, minor-in-field}
 use borrow.Author.Needs.{needs}
 use borrow.Fn.Kinds.{In}
 use borrow.Fn.PlainCycle.{Measures, is, falls, and}
@@ -104,7 +104,7 @@ determinant-returns-3 t c =
     let args = at .before .before .before .args in
     let f = entry (args .t3) in
     c .two-by-two .ensures
-    ∙ det-two (args .p) f (two t at 1 0 (omega arith) (omega arith)) (two t at 1 1 (omega arith) (omega arith))
+    ∙ det-pair (args .p) f (two t at 1 0 (omega arith) (omega arith)) (two t at 1 1 (omega arith) (omega arith))
     ∙ ap (λ (n : ℕ). det (numbers (args .p)) n f) (sym (at .if3 .taken))
 
 determinant-three-by-three-requires : (t : ℕ) → determinant-lts.Need-three-by-three-requires (determinant-given t) (determinant-at t) determinant.Post

@@ -1,5 +1,5 @@
 -- `matrix::block::regular_between` meets its contract: the blocks of the sizes above `above` up to k are regular. Assumes nothing.
-use mathlib.Core.Path.{_≡_, refl, sym, _∙_}
+use mathlib.Core.Path.{_≡_, refl, sym}
 use mathlib.Core.Bool.{Bool, true, _||_}
 use mathlib.Core.List.{List}
 use Prim.Native.Nat.{ℕ, suc, _+_, _-_, _≤_, _<_}
@@ -7,11 +7,10 @@ use native.Mathlib.Nat.{le-refl, lt-of-lt-of-le}
 use native.Mathlib.Numerals.{add-one}
 use native.Mathlib.Omega.{arith}
 use lib.Dec.{ltb}
-use borrow.Author.Count.{below-more}
-use borrow.Author.Tests.{lt-ltb, le-ltb, not-true, not-false}
+use borrow.Author.Tests.{lt-ltb, le-ltb}
 use Rattle.matrix.specs.Numbers.{numbers, entry}
 use Rattle.matrix.specs.Steps.Regular.{regularOfSize, regularBetween}
-use Rattle.matrix.proofs.Squares.{each-every, every-not}
+use Rattle.matrix.proofs.Squares.{each-every, every-stops, every-goes}
 use borrow.Author.Needs.{needs}
 use Rattle.matrix.proofs.block.regular_between.Statement.{statement}
 use Rattle.matrix.proofs.block.regular_between.Tie as tie
@@ -57,8 +56,7 @@ returns : tie.Need-returns Inv-loop μ-loop
 unfolding regularBetween
 returns c =
     let a = c .before .before .before .before .args in
-    every-not (a .most) (isRegular (a .p) (a .m) (a .n) (a .least) (a .above)) (c .before .before .before .loop .k) (c .before .before .loop-test .taken)
-    (sym (size (c .before)) ∙ not-true _ (c .if1 .taken))
+    every-stops (isRegular (a .p) (a .m) (a .n) (a .least) (a .above)) (c .before .before .before .loop .k) _ (size (c .before)) (a .most) (c .before .before .loop-test .taken) (c .if1 .taken)
 
 add-k : tie.Need-add-k Inv-loop μ-loop
 add-k c = search needs
@@ -68,8 +66,9 @@ loop-less c = search needs
 
 loop-again : tie.Need-loop-again Inv-loop μ-loop
 loop-again c =
-    let inv = c .before .before .before .loop .inv in
-    (omega (arith, inv .0), below-more _ _ (inv .1) (sym (size (c .before)) ∙ not-false _ (c .if1 .left)))
+    let a = c .before .before .before .before .args in
+    let loop = c .before .before .before .loop in
+    (omega (arith, loop .inv .0), every-goes (isRegular (a .p) (a .m) (a .n) (a .least) (a .above)) (loop .k) _ (size (c .before)) (loop .inv .1) (c .if1 .left))
 
 returns-2 : tie.Need-returns-2 Inv-loop μ-loop
 unfolding regularBetween

@@ -4,12 +4,10 @@ use mathlib.Core.Bool.{true}
 use Prim.Native.Nat.{ℕ, _-_, _≤_, _<_}
 use native.Mathlib.Nat.{not-suc-le-zero}
 use native.Mathlib.Omega.{arith}
-use borrow.Author.Count.{below-more}
-use borrow.Author.Tests.{not-true, not-false}
 use borrow.Author.Needs.{needs}
 use Rattle.matrix.specs.Steps.Identity.{isUnitLine}
 use Rattle.matrix.specs.Numbers.{entry, InField}
-use Rattle.matrix.proofs.Squares.{each-every, every-not}
+use Rattle.matrix.proofs.Squares.{each-every, every-stops, every-goes}
 use Rattle.matrix.proofs.Units.{units-involution}
 use Rattle.matrix.proofs.involution.involution.Statement.{statement}
 use Rattle.matrix.proofs.involution.involution.Tie as tie
@@ -32,8 +30,7 @@ returns c =
     let start = c .before .before .before .before in
     let args = start .args in
     let test = c .before .is-unit-line in
-    every-not (args .n) (isUnitLine (args .p) (args .n) (entry (args .m))) (c .before .before .before .loop .i) (omega arith)
-    (sym (test .ensures) ∙ not-true (test .result) (c .if1 .taken))
+    every-stops (isUnitLine (args .p) (args .n) (entry (args .m))) (c .before .before .before .loop .i) (test .result) (test .ensures) (args .n) (omega arith) (c .if1 .taken)
     ∙ units-involution (args .p) (start .pre .0) (args .n) (entry (args .m)) (start .pre .2)
 
 add-i : tie.Need-add-i Inv-loop μ-loop
@@ -48,8 +45,7 @@ loop-again c =
     let loop = c .before .before .before .loop in
     let test = c .before .is-unit-line in (
       omega arith,
-      below-more (λ k. isUnitLine (args .p) (args .n) (entry (args .m)) k ≡ true) (loop .i) (loop .inv .1)
-          (sym (test .ensures) ∙ not-false (test .result) (c .if1 .left)),
+      every-goes (isUnitLine (args .p) (args .n) (entry (args .m))) (loop .i) (test .result) (test .ensures) (loop .inv .1) (c .if1 .left),
     )
 
 returns-2 : tie.Need-returns-2 Inv-loop μ-loop

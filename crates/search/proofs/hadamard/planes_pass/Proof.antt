@@ -5,10 +5,9 @@ use Prim.Native.Nat.{ℕ, _-_, _≤_, _<_}
 use native.Mathlib.Nat.{not-suc-le-zero}
 use native.Mathlib.Omega.{arith}
 use borrow.Author.Needs.{needs}
-use Rattle.matrix.proofs.Squares.{each-every}
+use Rattle.matrix.proofs.Squares.{each-every, every-stops, every-goes}
 use Rattle.field.specs.Steps.{everyBelow}
 use Rattle.search.specs.Steps.Hadamard.{planePasses, planesPass}
-use Rattle.search.proofs.PlaneCuts.{every-stops, every-goes}
 use Rattle.search.proofs.hadamard.planes_pass.Statement.{statement}
 use Rattle.search.proofs.hadamard.planes_pass.Tie as tie
 

@@ -5,9 +5,8 @@ use Prim.Native.Nat.{ℕ, _-_, _≤_, _<_}
 use native.Mathlib.Nat.{not-suc-le-zero}
 use native.Mathlib.Omega.{arith}
 use borrow.Author.Needs.{needs}
-use Rattle.matrix.proofs.Squares.{each-every}
+use Rattle.matrix.proofs.Squares.{each-every, every-stops, every-goes}
 use Rattle.search.specs.Steps.Hadamard.{planePasses}
-use Rattle.search.proofs.PlaneCuts.{every-stops, every-goes}
 use Rattle.search.proofs.hadamard.planes_through.Statement.{statement}
 use Rattle.search.proofs.hadamard.planes_through.Tie as tie
 
