@@ -7,7 +7,6 @@ import rowtext
 
 HERE = os.path.dirname(os.path.abspath(__file__))
 TUNED = os.path.join(rowtext.ROOT, "target", "bench", "tuned")
-COMPILED = os.path.join(rowtext.ROOT, "target", "bin", "rowfind")
 BUILD_TUNED = ["cc", "-O3", "-std=c11", "-Wall", "-Wextra"]
 
 MOST_RUNS = 15
@@ -17,15 +16,9 @@ LIMIT = 120  # seconds: given up
 
 def build_tuned():
     """Builds the C program."""
+    rowtext.needed("cc", "builds the C program tuned by hand", "a C compiler")
     os.makedirs(os.path.dirname(TUNED), exist_ok=True)
     subprocess.run(BUILD_TUNED + ["-o", TUNED, os.path.join(HERE, "tuned.c")], check=True)
-
-
-def compiled_rowfind():
-    """The compiled program, where it is built and the environment variable ROWFIND names no other: starting ./rowfind, a
-    script, takes 2 to 3 ms longer."""
-    use = "ROWFIND" not in os.environ and os.access(COMPILED, os.X_OK)
-    return COMPILED if use else rowtext.rowfind_path()
 
 
 def cpu_clock():
@@ -44,10 +37,10 @@ def timed(clock, program, text):
     return clock() - start, answer
 
 
-def best_times(clock, programs, text):
+def best_times(clock, programs, text, runs=MOST_RUNS):
     """By the name of the program, its (best seconds, answer). The programs run in turn."""
     best, spent = {}, dict.fromkeys(programs, 0.0)
-    for _ in range(MOST_RUNS):
+    for _ in range(runs):
         for name, program in programs.items():
             if spent[name] < ENOUGH:
                 seconds, answer = timed(clock, program, text)

@@ -1,4 +1,7 @@
-/* The row finder as a library: one request text to one answer text. The formats and numbers are those of the README. */
+/* The row finder as a library: one request text to one answer text. The formats and numbers are those of the README.
+ *
+ * Threads: every call may be made from any thread, and from several at once. The library has no state: a call reads its
+ * request, writes to the space and the length that it is lent, and uses its own stack; it takes no memory from elsewhere. */
 #ifndef ROWFIND_H
 #define ROWFIND_H
 
@@ -8,6 +11,10 @@
 #ifdef __cplusplus
 extern "C" {
 #endif
+
+/* Stack: a call takes at most 74 KiB, most of it for a table of products. A thread whose stack has ROWFIND_STACK bytes can make
+ * every call and has some left for its own. Both are measured, not proved: bindings/c/test holds the library to them. */
+#define ROWFIND_STACK (96 * 1024)
 
 /* Answers the request in the lent space and stores a length at *length.
  *

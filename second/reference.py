@@ -42,18 +42,19 @@ def survey_lines():
 
 
 def limit_lines():
-    """Limits of polynomial, order and count. An answer of None is one that must not be refusal 6."""
+    """Limits of polynomial, order and count."""
     for polynomial, number in [(3, 3), (7, 9), (21, 4), (511, 4), (512, 3)]:
         yield f"polynomial {polynomial}", request(SEARCH, polynomial, 4, [1]), line([number])
     values = list(range(1, 257))
-    yield "order 8, 16 candidates", request(SEARCH, 283, 8, values[:16]), None
+    eight, four = [1, 2, 3, 9, 4, 10, 8, 14], [1, 2, 141, 143]
+    yield "order 8, 16 candidates", request(SEARCH, 283, 8, values[:16]), line([0, 84, 140, 1120]) + line(eight)
     yield "order 8, 17 candidates", request(SEARCH, 283, 8, values[:17]), line([6])
-    yield "order 4, 255 candidates", request(SEARCH, 283, 4, values[:255]), None
+    yield "order 4, 255 candidates", request(SEARCH, 283, 4, values[:255]), line([0, 20, 44, 176]) + line(four)
     yield "order 4, 256 values", request(SEARCH, 283, 4, values), line([6])
 
 
 def reference_lines():
-    """(name, request text, answer text or None)"""
+    """(name, request text, answer text)"""
     for part in (search_lines, check_lines, survey_lines, field_lines, limit_lines):
         yield from part()
 

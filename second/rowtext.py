@@ -1,64 +1,79 @@
 """Request and answer texts, and the two programs that turn one into the other. For the scripts of this project."""
 import contextlib
+import filecmp
 import json
 import os
+import shutil
 import subprocess
 import sys
 
 ROOT = os.path.dirname(os.path.dirname(os.path.abspath(__file__)))
+SCRIPT = os.path.join(ROOT, "rowfind")
+COMPILED = os.path.join(ROOT, "target", "bin", "rowfind")
 SECOND = os.path.join(ROOT, "target", "second", "release", "second")
 
-SEARCH, CHECK, SURVEY = 1, 2, 3
+sys.path.insert(0, os.path.join(ROOT, "bindings", "python"))
+sys.dont_write_bytecode = True
 
-MEANINGS = {
-    1: "the text is not in form, is too long, or has not as many values as its count says",
-    2: "the kind is not 1, 2 or 3",
-    3: "the polynomial is not from 4 to 511 (for a survey: the degree is not from 2 to 8)",
-    4: "the polynomial is reducible",
-    5: "the order is not allowed for the kind",
-    6: "the count is not allowed for the kind and order",
-    7: "a value is outside the field (2 to the degree, or more)",
-    8: "a candidate is 0 or repeated",
-    9: "none: no row over the candidates is both an involution and MDS",
-}
+from rowfind import CHECK, MEANINGS, MOST_VALUES, SEARCH, SURVEY, line, numbers, request
+
+
+def give_up(words):
+    """Ends a script that cannot do its work: one line, and a status of its own."""
+    print(f"{os.path.basename(sys.argv[0])}: {words}", file=sys.stderr)
+    sys.exit(2)
+
+
+def needed(command, what_for, where_from):
+    """Gives up where a command is missing."""
+    if not shutil.which(command):
+        give_up(f"the command {command}, which {what_for}, is missing: install {where_from} first")
 
 
 def rowfind_path():
     """The program under test: the environment variable ROWFIND, or ./rowfind in the project's root."""
-    return os.path.abspath(os.environ.get("ROWFIND", os.path.join(ROOT, "rowfind")))
+    return os.path.abspath(os.environ.get("ROWFIND") or SCRIPT)
 
 
 def ready_rowfind():
-    """The program's path, after one run: ./rowfind may build itself on first use, which is no part of any measurement."""
+    """The program under test, ready to run many times: what ROWFIND names, or the compiled program, which ./rowfind first brings
+    up to date."""
     path = rowfind_path()
-    if not os.access(path, os.X_OK):
-        sys.exit(f"there is no program {os.path.relpath(path)}; the environment variable ROWFIND may name another")
-    run(path, b"")
-    return path
+    if is_second(path):
+        give_up("ROWFIND names the second program, which would be compared with itself")
+    try:
+        done = subprocess.run([path], stdin=subprocess.DEVNULL, stdout=subprocess.DEVNULL, check=False)
+    except OSError as error:
+        give_up(f"{path} cannot be run ({error.strerror}); ROWFIND may name another program")
+    if done.returncode and path == SCRIPT:
+        sys.exit(2)  # the script has said why
+    if done.returncode:
+        give_up(f"{path} ended with status {done.returncode}, so nothing can be asked of it")
+    return COMPILED if path == SCRIPT else path
 
 
-def stand_in_note():
-    """A sentence for the reader where the second program stands in for rowfind, as it may while testing the scripts."""
-    same = os.path.realpath(rowfind_path()) == os.path.realpath(SECOND)
-    return "NOTE: the second program stood in for rowfind, so nothing was compared." if same else ""
+def is_second(path):
+    """Whether a program is the second program or a copy of it."""
+    both = os.path.isfile(path) and os.path.isfile(SECOND)
+    return both and (os.path.samefile(path, SECOND) or filecmp.cmp(path, SECOND, shallow=False))
 
 
 def build_second():
     """Builds the second program, without a network."""
+    needed("cargo", "builds the second program", "the Rust toolchain")
     command = ["cargo", "build", "--release", "--offline", "--quiet"]
     places = ["--manifest-path", os.path.join(ROOT, "second", "Cargo.toml"), "--target-dir", os.path.join(ROOT, "target", "second")]
-    subprocess.run(command + places, check=True)
+    if subprocess.run(command + places, check=False).returncode:
+        give_up("the second program could not be built")
 
 
-def line(numbers):
-    """One line: each number right-justified in six columns."""
-    return b"".join(b"%6d" % n for n in numbers) + b"\n"
-
-
-def request(kind, polynomial, order, values, count=None):
-    """The text of a request, sixteen values to a line. The count may be made to lie."""
-    head = line([kind, polynomial, order, len(values) if count is None else count])
-    return head + b"".join(line(values[k : k + 16]) for k in range(0, len(values), 16))
+def chosen(parts, names):
+    """The parts, functions, that a command line names; all if it names none."""
+    known = {part.__name__: part for part in parts}
+    for name in names:
+        if name not in known:
+            give_up(f"there is no part {name!r}; the parts are {', '.join(known)}")
+    return [known[name] for name in names] if names else parts
 
 
 def hadamard(row):
@@ -73,24 +88,22 @@ def circulant(row):
     return [row[(j - i) % n] for i in range(n) for j in range(n)]
 
 
-def numbers(answer):
-    """The lines of an answer text as lists of numbers; every six columns are one, with or without a space before it."""
-    return [[int(row[k : k + 6]) for k in range(0, len(row), 6)] for row in answer.decode("ascii").splitlines()]
-
-
 def run(program, text, timeout=None):
     """Standard output of one run of a program on a text."""
     return run_on(program, {"input": text}, timeout)
 
 
 def run_on(program, source, timeout=None):
-    """The same with the standard input that `source`, arguments of subprocess.run, sets up. Death by a signal or an overrun
-    of the time is an answer of its own."""
+    """The same with the standard input that `source`, arguments of subprocess.run, sets up. A status other than 0, death by a
+    signal and an overrun of the time are answers of their own, which no answer text is equal to."""
     try:
-        done = subprocess.run([program], stdout=subprocess.PIPE, timeout=timeout, **source)
+        done = subprocess.run([program], stdout=subprocess.PIPE, timeout=timeout, check=False, **source)
     except subprocess.TimeoutExpired:
         return b"no answer within %d seconds" % timeout
-    return done.stdout if done.returncode >= 0 else b"ended by signal %d" % -done.returncode
+    if done.returncode:
+        how = b"signal %d" if done.returncode < 0 else b"exit status %d"
+        return b"ended by " + how % abs(done.returncode) + b" after " + done.stdout
+    return done.stdout
 
 
 @contextlib.contextmanager

@@ -1,3 +1,4 @@
+-- Laws of numbers in their columns and of whole texts.
 pub mod Places
 pub mod Compare
 pub mod Lengths

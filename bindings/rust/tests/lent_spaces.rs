@@ -80,3 +80,20 @@ fn every_refusal() {
 fn no_request_at_all() {
     check_spaces(b"", &text(&[&[1]]), 1, 9);
 }
+
+#[test]
+fn in_a_thread_with_the_stated_stack() {
+    let request = text(&[
+        &[1, 415, 8, 16],
+        &[22, 23, 52, 53, 74, 75, 104, 105, 146, 147, 176, 177, 206, 207, 236, 237],
+    ]);
+    let expected = text(&[&[0, 176, 232, 1856], &[52, 53, 75, 177, 105, 207, 206, 146]]);
+    let call = move || {
+        let mut space = lent(expected.len());
+        let reply = answer(&request, &mut space);
+        assert_eq!(reply, Reply { number: 0, length: expected.len() });
+        assert_eq!(space, expected);
+    };
+    let thread = std::thread::Builder::new().stack_size(rowfind::STACK).spawn(call);
+    thread.unwrap().join().unwrap();
+}

@@ -1,4 +1,8 @@
-//! A safe wrapper of the proved call `rowfind_answer`. See include/rowfind.h for the numbers.
+//! A safe wrapper of the proved call `rowfind_answer`. See include/rowfind.h for the numbers. Calls may be made from several
+//! threads at once.
+
+/// Bytes of stack with which a thread can make every call: ROWFIND_STACK of include/rowfind.h.
+pub const STACK: usize = 96 * 1024;
 
 extern "C" {
     fn rowfind_answer(

@@ -1,0 +1,521 @@
+#!/usr/bin/env python3
+"""Tests of the project's scripts: ./rowfind, ./ask, those of second/, bench/ and bindings/, and the gate's own counting. A stand-in
+for rt, which "proves" in a moment, shows what ./rowfind does while it builds; the gate itself builds with the real one."""
+import importlib.machinery
+import importlib.util
+import os
+import shutil
+import signal
+import subprocess
+import sys
+import tempfile
+import time
+import unittest
+import xml.etree.ElementTree
+
+sys.dont_write_bytecode = True
+ROOT = os.path.dirname(os.path.dirname(os.path.realpath(__file__)))
+sys.path[:0] = [os.path.join(ROOT, "second"), os.path.join(ROOT, "bench")]
+
+import plot
+import reference
+import rowtext
+
+for name in ("ROWFIND", "CALLS"):
+    os.environ.pop(name, None)  # what is tested is what is here
+
+COMMANDS = "bash cat chmod dirname env find flock grep head mkdir mktemp mv readlink rm sed sleep".split()
+
+# Makes the one source there is the program. Where the file `slow` is there, it waits for a process, whose number it leaves and
+# which only a signal ends; where `held` is there, until it is gone; where `broken` is there, it fails.
+STAND_IN = """#!/usr/bin/env bash
+echo once >>builds
+echo "rt: field proved (1 s)"
+echo working >"$TMPDIR/work"
+[ ! -e slow ] || { sleep 1000 & echo $! >sleeper; wait; }
+while [ -e held ]; do sleep 0.02; done
+[ ! -e broken ] || { echo "rt: rowfind NOT PROVED (exit 1, 2 s)"; exit 1; }
+mkdir -p target/bin
+{ echo '#!/usr/bin/env bash'; cat crates/rowfind/src/main.rt; } >target/bin/rowfind
+chmod +x target/bin/rowfind
+echo "rt: rowfind proved (2 s)"
+"""
+
+
+def load(path):
+    """A script without the ending .py, as a module."""
+    loader = importlib.machinery.SourceFileLoader(os.path.basename(path), os.path.join(ROOT, path))
+    module = importlib.util.module_from_spec(importlib.util.spec_from_loader(loader.name, loader))
+    loader.exec_module(module)
+    return module
+
+
+def run(words, **settings):
+    """(exit status, standard output, standard error)"""
+    settings = {"stdin": subprocess.DEVNULL, "stdout": subprocess.PIPE, "stderr": subprocess.PIPE, "timeout": 60, **settings}
+    done = subprocess.run(words, check=False, text=True, **settings)
+    return done.returncode, done.stdout, done.stderr
+
+
+def write(path, text):
+    os.makedirs(os.path.dirname(path), exist_ok=True)
+    with open(path, "w", encoding="utf8") as f:
+        f.write(text)
+    os.chmod(path, 0o755)
+
+
+def read(path):
+    with open(path, encoding="utf8") as f:
+        return f.read()
+
+
+def wait_for(path, words="", times=1):
+    """What a file has, once it has these words so many times."""
+    for _ in range(1500):
+        if os.path.exists(path) and read(path) and read(path).count(words) >= times:
+            return read(path)
+        time.sleep(0.02)
+    raise AssertionError(f"{path} does not have {words!r} {times} times")
+
+
+def has_ended(process):
+    """Whether a process is gone, or goes within a few seconds."""
+    for _ in range(250):
+        try:
+            if read(f"/proc/{process}/stat").rsplit(")", 1)[1].split()[0] == "Z":
+                return True
+        except (FileNotFoundError, ProcessLookupError):
+            return True
+        time.sleep(0.02)
+    return False
+
+
+class Place(unittest.TestCase):
+    """A test with a folder of its own, and a path on which stand few commands."""
+
+    def setUp(self):
+        self.place = os.path.realpath(tempfile.mkdtemp())
+        self.addCleanup(shutil.rmtree, self.place)
+        self.bin = os.path.join(self.place, "bin")
+        os.mkdir(self.bin)
+        for command in COMMANDS:
+            os.symlink(shutil.which(command), os.path.join(self.bin, command))
+        os.symlink(sys.executable, os.path.join(self.bin, "python3"))
+        self.scratch = os.path.join(self.place, "scratch")
+        os.mkdir(self.scratch)
+        self.environment = {"PATH": self.bin, "TMPDIR": self.scratch}
+
+
+class Rowfind(Place):
+    """The script ./rowfind in a project of one source, with the stand-in for rt."""
+
+    def setUp(self):
+        super().setUp()
+        self.project = os.path.join(self.place, "project")
+        self.source("echo one")
+        write(self.path("crates.txt"), "rowfind:\n")
+        shutil.copy(os.path.join(ROOT, "rowfind"), self.path("rowfind"))
+        write(os.path.join(self.bin, "rt"), STAND_IN)
+
+    def path(self, *names):
+        return os.path.join(self.project, *names)
+
+    def source(self, text):
+        write(self.path("crates", "rowfind", "src", "main.rt"), text + "\n")
+
+    def asked(self, **settings):
+        return run([self.path("rowfind")], env=self.environment, **settings)
+
+    def begun(self, **settings):
+        """A use that goes on in the background."""
+        settings = {"stdin": subprocess.DEVNULL, "stdout": subprocess.PIPE, "stderr": subprocess.PIPE, **settings}
+        return subprocess.Popen([self.path("rowfind")], env=self.environment, **settings)
+
+    def at_work(self):
+        """A use that is building, or whose program is running, and the process that only a signal ends."""
+        use = self.begun()
+        return use, int(wait_for(self.path("sleeper"), "\n"))
+
+    def builds(self):
+        return read(self.path("builds")).count("once")
+
+    def left_behind(self):
+        return sorted(name for name in os.listdir(self.path("target")) if name.startswith("rowfind")) + os.listdir(self.scratch)
+
+    def test_the_first_use_builds_and_says_so(self):
+        status, answer, said = self.asked()
+        self.assertEqual((status, answer), (0, "one\n"))
+        lines = said.splitlines()
+        self.assertIn("first use", lines[0])
+        self.assertEqual(lines[1:], ["rowfind: field proved (1 s)", "rowfind: rowfind proved (2 s)"])
+        self.assertEqual(self.left_behind(), ["rowfind-built"])
+        self.assertEqual(self.asked(), (0, "one\n", ""))
+        self.assertEqual(self.builds(), 1)
+
+    def test_of_several_first_uses_one_builds(self):
+        write(self.path("held"), "")
+        said = os.path.join(self.place, "said")
+        with open(said, "a", encoding="utf8") as errors:
+            uses = [self.begun(stderr=errors) for _ in range(3)]
+            wait_for(said, "waiting for it", 2)
+            os.remove(self.path("held"))
+            self.assertEqual([use.communicate(timeout=60)[0] for use in uses], [b"one\n"] * 3)
+        self.assertEqual(self.builds(), 1)
+
+    def test_a_changed_source_is_built_again(self):
+        self.asked()
+        self.source("echo two")
+        status, answer, said = self.asked()
+        self.assertEqual((status, answer), (0, "two\n"))
+        self.assertIn("newer than the program", said)
+
+    def test_an_old_file_in_the_place_of_a_new_one_counts(self):
+        self.source("echo two")
+        self.asked()
+        self.source("echo one")
+        os.utime(self.path("crates", "rowfind", "src", "main.rt"), (0, 0))
+        self.assertEqual(self.asked()[1], "one\n")
+
+    def test_whatever_else_changes_is_built_again(self):
+        extra = self.path("crates", "rowfind", "specs", "Lib.antt")
+        changes = [
+            lambda: write(self.path("crates.txt"), "rowfind: \n"),
+            lambda: write(extra, "new"),
+            lambda: os.remove(extra),
+            lambda: write(os.path.join(self.bin, "rt"), STAND_IN),
+            lambda: write(os.path.join(self.place, "KIT-ID"), "another kit"),
+            lambda: os.remove(self.path("target", "bin", "rowfind")),
+            lambda: self.environment.update(RATTLE_HOME=self.place),
+        ]
+        self.asked()
+        for k, change in enumerate(changes):
+            change()
+            self.assertEqual(self.asked()[:2], (0, "one\n"), k)
+            self.assertEqual(self.builds(), k + 2, k)
+
+    def test_a_change_during_the_build_is_built_again(self):
+        write(self.path("slow"), "")
+        use, sleeper = self.at_work()
+        os.remove(self.path("slow"))
+        self.source("echo two")
+        os.kill(sleeper, signal.SIGKILL)
+        use.communicate(timeout=60)
+        self.asked()
+        self.assertEqual(self.builds(), 2)
+
+    def test_what_cannot_be_built_does_not_answer(self):
+        self.asked()
+        write(self.path("broken"), "")
+        self.source("echo two")
+        status, answer, said = self.asked()
+        self.assertEqual((status, answer), (3, ""))
+        self.assertIn("NOT PROVED", said)
+        self.assertIn("target/rowfind-build.log says why", said.splitlines()[-1])
+        os.remove(self.path("broken"))
+        self.assertEqual(self.asked()[:2], (0, "two\n"))
+
+    def test_an_interrupt_ends_what_was_started(self):
+        write(self.path("slow"), "")
+        for number in (signal.SIGINT, signal.SIGTERM, signal.SIGHUP):
+            use, sleeper = self.at_work()
+            use.send_signal(number)
+            answer, said = use.communicate(timeout=60)
+            self.assertEqual((use.returncode, answer), (128 + number, b""))
+            self.assertEqual(said.splitlines()[-1], b"rowfind: stopped by a signal")
+            self.assertTrue(has_ended(sleeper))
+            self.assertEqual(self.left_behind(), [])
+            os.remove(self.path("sleeper"))
+
+    def test_who_waits_can_be_interrupted_and_leaves_the_build_alone(self):
+        write(self.path("slow"), "")
+        builder, _ = self.at_work()
+        waiter = self.begun()
+        self.assertIn(b"waiting", waiter.stderr.readline())
+        waiter.send_signal(signal.SIGTERM)
+        waiter.communicate(timeout=60)
+        self.assertEqual(waiter.returncode, 143)
+        self.assertEqual(self.left_behind()[:2], ["rowfind-begun", "rowfind-build.log"])
+        builder.terminate()
+        builder.communicate(timeout=60)
+
+    def test_an_interrupt_ends_the_program_too(self):
+        self.source("echo $$ >sleeper; exec sleep 1000")
+        use, sleeper = self.at_work()
+        use.terminate()
+        use.communicate(timeout=60)
+        self.assertEqual(use.returncode, 143)
+        self.assertTrue(has_ended(sleeper))
+
+    def test_a_link_to_it_works(self):
+        link = os.path.join(self.place, "link to rowfind")
+        os.symlink("project/rowfind", link)
+        status, answer, _ = run([link], env=self.environment, cwd="/")
+        self.assertEqual((status, answer), (0, "one\n"))
+        status, answer, _ = run(["bash", "rowfind"], env=self.environment, cwd=self.project)
+        self.assertEqual((status, answer), (0, "one\n"))
+
+    def test_without_rt_one_line_says_what_is_missing(self):
+        os.remove(os.path.join(self.bin, "rt"))
+        status, answer, said = self.asked()
+        self.assertEqual((status, answer, len(said.splitlines())), (3, "", 1))
+        self.assertIn("the command rt", said)
+
+    def test_without_rt_a_program_that_is_there_answers(self):
+        self.asked()
+        os.remove(os.path.join(self.bin, "rt"))
+        self.assertEqual(self.asked(), (0, "one\n", ""))
+
+    def test_a_lost_answer_has_a_status_of_its_own(self):
+        self.asked()
+        with open("/dev/full", "w", encoding="utf8") as full:
+            status, _, said = self.asked(stdout=full)
+        self.assertEqual((status, len(said.splitlines())), (4, 1))
+        status, _, said = run(["bash", "-c", "./rowfind >&-"], env=self.environment, cwd=self.project)
+        self.assertEqual((status, len(said.splitlines())), (4, 1))
+
+    def test_a_program_that_fails_has_a_status_of_its_own(self):
+        for source, words in (("echo one; exit 5", "status 5"), ("kill -9 $$", "status 137"), (":", "no answer")):
+            self.source(source)
+            status, answer, said = self.asked()
+            self.assertEqual((status, answer), (3, ""))
+            self.assertIn(words, said.splitlines()[-1])
+
+    def test_closed_streams(self):
+        self.source("cat; echo one")
+        self.asked()
+        for closed in ("<&-", "<&- 2>&-", "</", "2>&-"):
+            status, answer, _ = run(["bash", "-c", f"./rowfind {closed}"], env=self.environment, cwd=self.project)
+            self.assertEqual((status, answer), (0, "one\n"), closed)
+
+    def test_words_are_refused_and_help_is_given(self):
+        status, _, said = run([self.path("rowfind"), "search"], env=self.environment)
+        self.assertEqual((status, len(said.splitlines())), (2, 1))
+        status, shown, said = run([self.path("rowfind"), "--help"], env=self.environment)
+        self.assertEqual((status, said), (0, ""))
+        self.assertIn("Exit status", shown)
+
+
+class Ask(Place):
+    """./ask, with programs that stand in for ./rowfind."""
+
+    BRIEF = ["search", "19", "4", "1", "4", "9", "13"]
+
+    def asked(self, words, rowfind=None, **settings):
+        environment = dict(os.environ, **({"ROWFIND": rowfind} if rowfind else {}))
+        return run([os.path.join(ROOT, "ask"), *words], env=environment, **settings)
+
+    def program(self, text):
+        write(os.path.join(self.place, "program"), "#!/usr/bin/env bash\n" + text + "\n")
+        return os.path.join(self.place, "program")
+
+    def refused(self, status, words, rowfind=None, **settings):
+        """One line, and the status."""
+        told, _, said = self.asked(words, rowfind, **settings)
+        self.assertEqual((told, said.count("\n"), said[:5]), (status, 1, "ask: "), said)
+        return said
+
+    def test_an_answer_in_words(self):
+        answer = self.program(f"cat >/dev/null; printf '{reference.WORKED_ANSWER.decode()}'")
+        status, shown, said = self.asked(self.BRIEF, answer)
+        self.assertEqual((status, said), (0, ""))
+        self.assertIn("the lightest row: 1 4 9 13", shown)
+        self.assertEqual(self.asked(self.BRIEF, self.program("printf '     9\\n'"))[0], 1)
+
+    def test_wrong_use(self):
+        for words in ("", "find", "search", "search 19", "survey", "survey 4 4", "survey -1", "survey 1e3"):
+            self.refused(2, words.split())
+        for word in ("1000000", "9" * 5000, "0x" + "f" * 5000, "x" * 5000, "1\n2", "\udcff"):
+            self.assertLess(len(self.refused(2, ["survey", word])), 120)
+        self.refused(2, ["search", "19", "4"] + ["1"] * 672)
+
+    def test_help_wherever_it_is_asked_for(self):
+        for words in (["--help"], ["-h"], ["search", "--help"], ["survey", "4", "-h"]):
+            status, shown, said = self.asked(words)
+            self.assertEqual((status, said), (0, ""))
+            self.assertIn("./ask search POLYNOMIAL", shown)
+
+    def test_what_is_no_program(self):
+        write(os.path.join(self.place, "text"), "no program")
+        for path in ("/", self.place, os.path.join(self.place, "nothing"), os.path.join(self.place, "text"), "/dev/null"):
+            self.refused(3, self.BRIEF, path)
+
+    def test_a_program_that_fails(self):
+        for text, words in (("exit 5", "status 5"), ("kill -9 $$", "signal 9"), ("printf '     9\\n'; exit 1", "status 1")):
+            self.assertIn(words, self.refused(3, self.BRIEF, self.program(text)))
+
+    def test_what_is_no_answer_text(self):
+        worked = reference.WORKED_ANSWER.decode()
+        texts = ["", "hello", "     9", "     0\n", "    10\n", "     9\n     9\n", "     0     5     1     1    72\n"]
+        texts += [worked[:-1], worked + worked, worked.replace("    18", "   018"), worked.replace("    13", "")]
+        for text in texts:
+            said = self.refused(3, self.BRIEF, self.program(f"cat >/dev/null; printf '{text}'"))
+            self.assertIn("something else than an answer text", said)
+        self.refused(3, self.BRIEF, self.program("exec cat"))
+        self.refused(3, self.BRIEF, self.program("while :; do echo yes; done"))
+        self.refused(3, ["survey", "4"], self.program("printf '     0     2\\n    19    68   416\\n'"))
+
+    def test_a_lost_answer(self):
+        answer = self.program("printf '     9\\n'")
+        with open("/dev/full", "w", encoding="utf8") as full:
+            self.refused(4, self.BRIEF, answer, stdout=full)
+        reader, writer = os.pipe()
+        os.close(reader)
+        self.refused(4, self.BRIEF, answer, stdout=writer)
+        os.close(writer)
+        words = " ".join([os.path.join(ROOT, "ask"), *self.BRIEF, ">&-"])
+        status, _, said = run(["bash", "-c", words], env=dict(os.environ, ROWFIND=answer))
+        self.assertEqual((status, said.count("\n")), (4, 1))
+
+    def test_an_interrupt(self):
+        sleeper = os.path.join(self.place, "sleeper")
+        program = self.program(f"echo $$ >{sleeper}; exec sleep 1000")
+        for number in (signal.SIGINT, signal.SIGTERM):
+            settings = {"env": dict(os.environ, ROWFIND=program), "stdout": subprocess.DEVNULL, "stderr": subprocess.PIPE}
+            asking = subprocess.Popen([os.path.join(ROOT, "ask"), *self.BRIEF], **settings)
+            process = int(wait_for(sleeper, "\n"))
+            asking.send_signal(number)
+            _, said = asking.communicate(timeout=60)
+            self.assertEqual((asking.returncode, said), (128 + number, b"ask: interrupted\n"))
+            self.assertTrue(has_ended(process))
+            os.remove(sleeper)
+
+
+class Comparison(Place):
+    """The scripts that compare."""
+
+    def told(self, words, status=2, **environment):
+        """The one line of a script that gives up."""
+        told, _, said = run([os.path.join(ROOT, words[0]), *words[1:]], env=dict(os.environ, **environment))
+        self.assertEqual((told, said.count("\n")), (status, 1), said)
+        return said
+
+    def test_the_second_program_is_not_compared_with_itself(self):
+        copy = shutil.copy(rowtext.SECOND, self.place)
+        for program in (rowtext.SECOND, copy):
+            for script in ("second/cases", "second/compare", "second/sources", "bench/run"):
+                self.assertIn("compared with itself", self.told([script], ROWFIND=program))
+
+    def test_no_program_to_compare(self):
+        for script in ("second/cases", "second/compare"):
+            self.told([script], ROWFIND=self.place)
+            self.assertIn("status 1", self.told([script], ROWFIND=shutil.which("false")))
+
+    def test_no_part_of_that_name(self):
+        for script in ("second/compare", "second/calls"):
+            self.assertIn("no part 'nothing'", self.told([script, "nothing"]))
+
+    def test_a_missing_command_is_named(self):
+        for script, command in (("second/compare", "cargo"), ("second/calls", "cargo"), ("bench/run", "cargo")):
+            self.assertIn(f"the command {command}", self.told([script], PATH=self.bin))
+
+    def test_without_rt_one_line_says_what_is_missing(self):
+        project = os.path.join(self.place, "project")
+        for name in ("second", "bindings"):
+            shutil.copytree(os.path.join(ROOT, name), os.path.join(project, name))
+        shutil.copy(os.path.join(ROOT, "rowfind"), project)
+        status, shown, said = run([os.path.join(project, "second", "cases")], env=self.environment)
+        self.assertEqual((status, shown, said.count("\n")), (2, "", 1), said)
+        self.assertIn("the command rt", said)
+
+    def test_a_status_of_the_program_counts(self):
+        program = os.path.join(self.place, "program")
+        for ending in ("exit 1", "exit 255", "kill -9 $$"):
+            write(program, f"#!/usr/bin/env bash\nprintf '{reference.WORKED_ANSWER.decode()}'\n{ending}\n")
+            self.assertNotEqual(rowtext.run(program, reference.WORKED_REQUEST), reference.WORKED_ANSWER)
+
+    def test_reads_that_are_to_fail_do_fail(self):
+        for opened in (rowtext.directory(), rowtext.closed(), rowtext.failing_behind(b""), rowtext.failing_behind(b"text")):
+            with opened as source:
+                done = subprocess.run(["cat"], stdout=subprocess.PIPE, stderr=subprocess.PIPE, check=False, **source)
+            self.assertEqual(done.returncode, 1, done.stderr)
+
+    def test_a_stale_page_of_sources_is_seen(self):
+        sources = load("second/sources")
+        page = read(os.path.join(ROOT, "docs", "SOURCES.md"))
+        self.assertFalse(sources.is_stale(page))
+        self.assertTrue(sources.is_stale(page.replace("97 printed", "96 printed")))
+
+
+class Gate(Place):
+    """The gate's counting."""
+
+    def counted(self, *words):
+        return run([os.path.join(ROOT, ".ci", "counted"), *words])[0]
+
+    def test_less_than_the_least_number_fails(self):
+        pattern = "[0-9]+ matrices"
+        lines = read(os.path.join(ROOT, ".ci", "least")).splitlines()
+        least = next(int(line.split()[1]) for line in lines if line.startswith("matrices "))
+        self.assertEqual(self.counted("matrices", pattern, "echo", f"{least} matrices"), 0)
+        self.assertEqual(self.counted("matrices", pattern, "echo", f"{least - 1} matrices"), 1)
+        self.assertEqual(self.counted("matrices", pattern, "echo", "no matrix"), 1)
+
+    def test_a_step_that_fails_fails(self):
+        self.assertEqual(self.counted("matrices", "[0-9]+ matrices", "bash", "-c", "echo 1000 matrices; exit 3"), 3)
+
+    def test_a_number_that_is_not_held_fails(self):
+        self.assertEqual(self.counted("nothing", "[0-9]+", "echo", "1000"), 2)
+
+    def test_the_gate_looks_at_no_other_program(self):
+        self.assertIn("unset ROWFIND CALLS", read(os.path.join(ROOT, ".ci", "run")))
+
+
+class Bench(Place):
+    """The benchmarks' figures and their drawing."""
+
+    def test_a_quick_run_leaves_the_committed_figures(self):
+        kept = [os.path.join(ROOT, "bench", name) for name in ("RESULTS.md", "search-times.svg")]
+        before = [(read(path), os.stat(path).st_mtime_ns) for path in kept]
+        status, _, said = run([os.path.join(ROOT, "bench", "run"), "--quick"])
+        self.assertEqual((status, said), (0, ""))
+        self.assertEqual([(read(path), os.stat(path).st_mtime_ns) for path in kept], before)
+        self.assertIn("--quick", read(os.path.join(ROOT, "target", "bench", "RESULTS.md")))
+
+    def test_the_drawing_names_its_axes(self):
+        curves = [plot.Curve("rowfind", family, [(8, 0.001), (16, 0.08)]) for family in ("random", "hard")]
+        for drawing in (plot.panels("times", [("order 8", curves)]), read(os.path.join(ROOT, "bench", "search-times.svg"))):
+            root = xml.etree.ElementTree.fromstring(drawing)
+            words = [element.text for element in root.iter("{http://www.w3.org/2000/svg}text")]
+            self.assertTrue(root.get("viewBox"))
+            self.assertIn("number of candidates", words)
+            self.assertIn("CPU time, logarithmic scale", words)
+            self.assertTrue(any("stroke-dasharray" in element.attrib for element in root.iter()))
+
+
+class Bindings(Place):
+    """What the bindings say where something is missing."""
+
+    def setUp(self):
+        super().setUp()
+        self.project = os.path.join(self.place, "project")
+        os.makedirs(os.path.join(self.project, "crates"))
+        write(os.path.join(self.project, "crates.txt"), "answer:\n")
+        shutil.copytree(os.path.join(ROOT, "bindings"), os.path.join(self.project, "bindings"))
+
+    def test_the_missing_library_is_named(self):
+        for script in ("bindings/python/link", "bindings/c/test"):
+            status, _, said = run([os.path.join(self.project, script)], env=self.environment)
+            self.assertEqual((status, said.count("\n")), (1, 1), said)
+            self.assertIn("the command rt", said)
+            self.assertIn("run 'rt staticlib answer' first", said)
+
+    def test_cargo_names_the_missing_library(self):
+        manifest = os.path.join(self.project, "bindings", "rust", "Cargo.toml")
+        status, _, said = run(["cargo", "check", "--quiet", "--offline", "--manifest-path", manifest])
+        self.assertNotEqual(status, 0)
+        self.assertIn("libanswer.a is missing: run 'rt staticlib answer' first", said)
+
+    def test_an_old_library_is_not_linked(self):
+        write(os.path.join(self.project, "target", "staticlib", "libanswer.a"), "")
+        write(os.path.join(self.bin, "rt"), STAND_IN)
+        asked = [os.path.join(self.project, "bindings", "archive")]
+        self.assertEqual(run(asked, env=self.environment)[0], 0)
+        time.sleep(0.02)
+        write(os.path.join(self.project, "crates", "answer", "src", "lib.rt"), "new")
+        status, _, said = run(asked, env=self.environment)
+        self.assertEqual((status, said.count("\n")), (1, 1))
+        self.assertIn("older than the sources: run 'rt staticlib answer' first", said)
+
+
+if __name__ == "__main__":
+    unittest.main()

@@ -1,0 +1,160 @@
+"""The proved row finder for Python: searches, checks and surveys, in Python numbers.
+
+    >>> import rowfind
+    >>> rowfind.search(19, 4, [1, 4, 9, 13])
+    Row(row=[1, 4, 9, 13], element_sum=6, row_count=18, matrix_count=72)
+    >>> rowfind.check(7, [[1, 0], [0, 1]])
+    Check(branch_number=2, mds=False, involution=True, matrix_count=4)
+    >>> rowfind.survey(2)
+    [Polynomial(polynomial=7, count_sum=2, square_sum=2)]
+
+A polynomial or an element is a number whose bit i is the coefficient of x^i; anything that Python takes for an index is a
+number, Sage's integers too. A request that is refused raises Refused, with the number and its meaning.
+
+The calls go through ctypes to librowfind.so, which bindings/python/link makes. It is looked for at the path that the
+environment variable ROWFIND_LIBRARY names, else beside this file, else in target/shared of the project. All calls may be
+made from several threads at once. Nothing but Python's standard library is needed.
+"""
+import ctypes
+import functools
+import operator
+import os
+from typing import NamedTuple
+
+SEARCH, CHECK, SURVEY = 1, 2, 3
+
+LARGEST = 999999  # number of six columns
+MOST_VALUES = 671  # of a request: more do not fit 4,096 bytes
+
+MEANINGS = {
+    1: "the text is not in form, is too long, or has not as many values as its count says",
+    2: "the kind is not 1, 2 or 3",
+    3: "the polynomial is not from 4 to 511 (for a survey: the degree is not from 2 to 8)",
+    4: "the polynomial is reducible",
+    5: "the order is not allowed for the kind",
+    6: "the count is not allowed for the kind and order",
+    7: "a value is outside the field (2 to the degree, or more)",
+    8: "a candidate is 0 or repeated",
+    9: "none: no row over the candidates is both an involution and MDS",
+    10: "the lent space is shorter than the answer due",
+}
+
+
+class Refused(Exception):
+    """A refused request: the number of the refusal and its meaning."""
+
+    def __init__(self, number):
+        self.number, self.meaning = number, MEANINGS.get(number, "no known refusal")
+        super().__init__(number)
+
+    def __str__(self):
+        return f"refused with {self.number}: {self.meaning}"
+
+
+class Row(NamedTuple):
+    """The lightest row: entry h at (i xor j) of the row stands at line i, column j of its matrix."""
+
+    row: list
+    element_sum: int  # of the XOR counts of the row's elements
+    row_count: int
+    matrix_count: int
+
+
+class Check(NamedTuple):
+    """What is found of a matrix."""
+
+    branch_number: int
+    mds: bool
+    involution: bool
+    matrix_count: int
+
+
+class Polynomial(NamedTuple):
+    """An irreducible polynomial, with the sum of the XOR counts of its nonzero elements, and of their squares."""
+
+    polynomial: int
+    count_sum: int
+    square_sum: int
+
+
+def search(polynomial, order, candidates):
+    """The lightest row of order 4 or 8 over the candidates that is an MDS involution, the first of these in dictionary order.
+    Where there is none, Refused with number 9."""
+    (_, *counts), row = numbers(answer(request(SEARCH, polynomial, order, candidates)))
+    return Row(row, *counts)
+
+
+def check(polynomial, matrix):
+    """Branch number, MDS, involution and XOR count of a matrix, a list of its lines; the order is from 1 to 8."""
+    lines = [list(entries) for entries in matrix]
+    if any(len(entries) != len(lines) for entries in lines):
+        raise ValueError("a matrix has as many entries in each line as it has lines")
+    ((_, branch, mds, involution, count),) = numbers(answer(request(CHECK, polynomial, len(lines), sum(lines, []))))
+    return Check(branch, mds == 1, involution == 1, count)
+
+
+def survey(degree):
+    """All irreducible polynomials of a degree from 2 to 8, in ascending order."""
+    _, *lines = numbers(answer(request(SURVEY, degree, 0, [])))
+    return sorted(Polynomial(*found) for found in lines)
+
+
+def line(values):
+    """One line of a text: each number right-justified in six columns."""
+    return b"".join(b"%6d" % value for value in values) + b"\n"
+
+
+def request(kind, polynomial, order, values, count=None):
+    """The text of a request, sixteen values to a line. The count may be made to lie."""
+    values = [number(value) for value in values]
+    head = [number(kind), number(polynomial), number(order), len(values) if count is None else number(count)]
+    return line(head) + b"".join(line(values[k : k + 16]) for k in range(0, len(values), 16))
+
+
+def number(value):
+    """A number that can be written in six columns."""
+    value = operator.index(value)
+    if not 0 <= value <= LARGEST:
+        raise ValueError(f"a number is from 0 to {LARGEST}")
+    return value
+
+
+def numbers(text):
+    """The lines of a text as lists of numbers; ValueError if it is not the text of any."""
+    lines = [[number(int(row[k : k + 6])) for k in range(0, len(row), 6)] for row in text.decode("ascii").splitlines()]
+    if not lines or not all(lines) or b"".join(map(line, lines)) != text:
+        raise ValueError("not lines of numbers in six columns")
+    return lines
+
+
+def answer(text):
+    """The answer text due to a request text; Refused if it is refused."""
+    space, length = ctypes.create_string_buffer(1024), ctypes.c_size_t()
+    refusal = 10
+    while refusal == 10:
+        space = ctypes.create_string_buffer(2 * len(space))
+        refusal = library().rowfind_answer(text, len(text), space, len(space), ctypes.byref(length))
+    if refusal:
+        raise Refused(refusal)
+    return space.raw[: length.value]
+
+
+@functools.lru_cache(maxsize=None)
+def library():
+    """librowfind.so, opened once."""
+    path = library_path()
+    if not os.path.isfile(path):
+        raise FileNotFoundError(f"there is no {path}: run bindings/python/link first, or name it by ROWFIND_LIBRARY")
+    opened = ctypes.CDLL(path)
+    opened.rowfind_answer.restype = ctypes.c_uint32
+    opened.rowfind_answer.argtypes = [
+        ctypes.c_char_p, ctypes.c_size_t, ctypes.c_char_p, ctypes.c_size_t, ctypes.POINTER(ctypes.c_size_t)
+    ]
+    return opened
+
+
+def library_path():
+    here = os.path.dirname(os.path.realpath(__file__))
+    beside = os.path.join(here, "librowfind.so")
+    linked = os.path.normpath(os.path.join(here, "..", "..", "target", "shared", "librowfind.so"))
+    return os.environ.get("ROWFIND_LIBRARY") or (beside if os.path.isfile(beside) else linked)

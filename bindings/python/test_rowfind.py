@@ -1,0 +1,142 @@
+#!/usr/bin/env python3
+"""Tests of the Python module, with the library that bindings/python/link has made."""
+import concurrent.futures
+import doctest
+import os
+import pickle
+import subprocess
+import sys
+import unittest
+
+sys.dont_write_bytecode = True
+HERE = os.path.dirname(os.path.realpath(__file__))
+sys.path[:0] = [HERE, os.path.join(HERE, "..", "..", "second")]
+
+import reference
+import rowfind
+import rowtext
+
+
+class Index:
+    """A number of another library, such as Sage's integers."""
+
+    def __init__(self, value):
+        self.value = value
+
+    def __index__(self):
+        return self.value
+
+
+def answer_or_refusal(text):
+    """An answer text, or the line of a refusal."""
+    try:
+        return rowfind.answer(text)
+    except rowfind.Refused as refused:
+        return rowfind.line([refused.number])
+
+
+def checked(matrix):
+    entries, n = rowtext.entries_of(matrix), matrix["order"]
+    return rowfind.check(matrix["polynomial"], [entries[k : k + n] for k in range(0, n * n, n)])
+
+
+class Texts(unittest.TestCase):
+    def test_reference_lines(self):
+        for name, text, answer in reference.reference_lines():
+            self.assertEqual(answer_or_refusal(text), answer, name)
+
+    def test_every_refusal(self):
+        for name, text, number in reference.refusal_lines():
+            with self.assertRaises(rowfind.Refused, msg=name) as caught:
+                rowfind.answer(text)
+            self.assertEqual(caught.exception.number, number, name)
+
+    def test_only_texts_of_numbers_are_read(self):
+        for text in (b"", b"\n", b"     1", b"    1 \n", b"000001\n", b"    -1\n", b"     1\n\n", b"\xff\n", b"     1\r\n"):
+            with self.assertRaises(ValueError, msg=text):
+                rowfind.numbers(text)
+
+
+class Functions(unittest.TestCase):
+    def test_documented_examples(self):
+        for failures, tried in (doctest.testmod(rowfind), doctest.testfile("../../README.md", encoding="utf8")):
+            self.assertEqual((failures, tried > 0), (0, True))
+
+    def test_search(self):
+        found = rowfind.search(19, 4, iter([13, 9, 4, 1]))
+        self.assertEqual(found, rowfind.Row([1, 4, 9, 13], 6, 18, 72))
+        self.assertEqual(rowfind.search(Index(19), Index(4), map(Index, range(1, 16))), found)
+
+    def test_check(self):
+        fips = [[2, 3, 1, 1], [1, 2, 3, 1], [1, 1, 2, 3], [3, 1, 1, 2]]
+        self.assertEqual(rowfind.check(283, fips), rowfind.Check(5, True, False, 152))
+        self.assertEqual(rowfind.check(7, [[0]]), rowfind.Check(1, False, False, 0))
+
+    def test_printed_matrices(self):
+        right = [matrix for matrix in rowtext.printed_matrices() if "note" not in matrix]
+        self.assertTrue(right)
+        for matrix in right:
+            claims = {name: claim for name, claim in matrix["claim"].items() if name in rowfind.Check._fields}
+            self.assertEqual({name: getattr(checked(matrix), name) for name in claims}, claims, matrix["where"])
+
+    def test_survey(self):
+        self.assertEqual([found.polynomial for found in rowfind.survey(4)], [19, 25, 31])
+        everything = [found.polynomial for degree in range(2, 9) for found in rowfind.survey(degree)]
+        self.assertEqual(everything, rowtext.irreducible_polynomials())
+
+
+class Refusals(unittest.TestCase):
+    def test_number_and_meaning(self):
+        with self.assertRaises(rowfind.Refused) as caught:
+            rowfind.search(19, 4, [1, 2, 4, 8])
+        refused = caught.exception
+        self.assertEqual((refused.number, refused.meaning), (9, rowfind.MEANINGS[9]))
+        self.assertEqual(str(refused), "refused with 9: " + rowfind.MEANINGS[9])
+        self.assertEqual(pickle.loads(pickle.dumps(refused)).number, 9)
+
+    def test_refusals_of_functions(self):
+        refused = {
+            1: lambda: rowfind.search(19, 4, [1] * 672),
+            3: lambda: rowfind.survey(9),
+            4: lambda: rowfind.check(21, [[1]]),
+            5: lambda: rowfind.check(19, []),
+            6: lambda: rowfind.search(283, 8, range(1, 18)),
+            7: lambda: rowfind.check(19, [[16]]),
+            8: lambda: rowfind.search(19, 4, [1, 1]),
+        }
+        for number, call in refused.items():
+            with self.assertRaises(rowfind.Refused) as caught:
+                call()
+            self.assertEqual(caught.exception.number, number)
+
+    def test_what_is_no_number(self):
+        for value in (-1, 1000000, 10**5000):
+            with self.assertRaises(ValueError):
+                rowfind.survey(value)
+        for value in (4.0, "4", None):
+            with self.assertRaises(TypeError):
+                rowfind.search(19, value, [1])
+
+    def test_what_is_no_square_matrix(self):
+        for matrix in ([[1, 2]], [[1], [2]], [[1, 2], [3]]):
+            with self.assertRaises(ValueError):
+                rowfind.check(19, matrix)
+
+
+class Library(unittest.TestCase):
+    def test_several_threads_at_once(self):
+        matrices = rowtext.printed_matrices()
+        alone = [checked(matrix) for matrix in matrices]
+        with concurrent.futures.ThreadPoolExecutor(4) as pool:
+            for _ in range(3):
+                self.assertEqual(list(pool.map(checked, matrices)), alone)
+
+    def test_a_missing_library_is_named(self):
+        environment = dict(os.environ, ROWFIND_LIBRARY="no such file")
+        command = [sys.executable, "-B", "-c", "import rowfind; rowfind.survey(2)"]
+        said = subprocess.run(command, cwd=HERE, env=environment, stderr=subprocess.PIPE, check=False).stderr.decode().splitlines()
+        self.assertIn("no such file: run bindings/python/link first", said[-1])
+
+
+if __name__ == "__main__":
+    unittest.main()
