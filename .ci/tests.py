@@ -509,6 +509,8 @@ class Bindings(Place):
         write(os.path.join(self.project, "target", "staticlib", "libanswer.a"), "")
         write(os.path.join(self.bin, "rt"), STAND_IN)
         asked = [os.path.join(self.project, "bindings", "archive")]
+        self.assertIn("the command cc", run(asked, env=self.environment)[2])
+        write(os.path.join(self.bin, "cc"), "")
         self.assertEqual(run(asked, env=self.environment)[0], 0)
         time.sleep(0.02)
         write(os.path.join(self.project, "crates", "answer", "src", "lib.rt"), "new")
