@@ -1,4 +1,4 @@
-"""The reference lines of document 01 as whole request and answer texts, and a text for each refusal."""
+"""The reference lines of document 01, with the counts of request One, as whole request and answer texts; a text for each refusal."""
 from rowtext import CHECK, SEARCH, SURVEY, circulant, hadamard, line, request
 
 WORKED_REQUEST = b"     1    19     4     4\n     1     4     9    13\n"
@@ -14,10 +14,10 @@ def field_lines():
         branch = 1 if a == 0 else 2
         answer = line([0, branch, branch - 1, int(a == 1), count])
         yield f"count of {a} over 19", request(CHECK, 19, 1, [a]), answer
-    yield "2 × 9 = 1 over 19", request(CHECK, 19, 2, [0, 2, 9, 0]), line([0, 2, 0, 1, 1 + 1 + 8])
-    yield "8 × 15 = 1 over 19", request(CHECK, 19, 2, [0, 8, 15, 0]), line([0, 2, 0, 1, 3 + 6 + 8])
+    yield "2 × 9 = 1 over 19", request(CHECK, 19, 2, [0, 2, 9, 0]), line([0, 2, 0, 1, 1 + 1])
+    yield "8 × 15 = 1 over 19", request(CHECK, 19, 2, [0, 8, 15, 0]), line([0, 2, 0, 1, 3 + 6])
     # 2 to the fifth power is 4 × 8; the bit matrices of 4 and 8 over 31 have 7 ones each, so they count 3.
-    yield "2 to the fifth power is 1 over 31", request(CHECK, 31, 2, [0, 4, 8, 0]), line([0, 2, 0, 1, 3 + 3 + 8])
+    yield "2 to the fifth power is 1 over 31", request(CHECK, 31, 2, [0, 4, 8, 0]), line([0, 2, 0, 1, 3 + 3])
 
 
 def search_lines():
@@ -33,8 +33,21 @@ def check_lines():
     yield "Hadamard 1 3 8 11", request(CHECK, 19, 4, hadamard([1, 3, 8, 11])), line([0, 4, 0, 1, 104])
     yield "Hadamard 1 4 9 13", request(CHECK, 19, 4, hadamard([1, 4, 9, 13])), line([0, 5, 1, 1, 72])
     yield "FIPS 197 matrix", request(CHECK, 283, 4, circulant([2, 3, 1, 1])), line([0, 5, 1, 0, 152])
-    yield "identity of order 2 over 7", request(CHECK, 7, 2, [1, 0, 0, 1]), line([0, 2, 0, 1, 4])
+    yield "identity of order 2 over 7", request(CHECK, 7, 2, [1, 0, 0, 1]), line([0, 2, 0, 1, 0])
     yield "order 1, entry 0, over 7", request(CHECK, 7, 1, [0]), line([0, 1, 0, 0, 0])
+
+
+def zero_lines():
+    """Zeros cost no gates."""
+    yield "lines with 0, 1 and 3 entries", request(CHECK, 19, 3, [0, 0, 0, 0, 7, 0, 1, 2, 3]), line([0, 2, 0, 0, 23])
+    triangle = [0 if j < i else a for i in range(4) for j, a in enumerate(circulant([2, 3, 1, 1])[4 * i : 4 * i + 4])]
+    yield "upper triangle of the FIPS 197 matrix", request(CHECK, 283, 4, triangle), line([0, 2, 0, 0, 93])
+    for p in (7, 11, 19, 37, 67, 131, 283):
+        for n in range(1, 9):
+            identity = [int(i == j) for i in range(n) for j in range(n)]
+            answer = line([0, 2, int(n == 1), 1, 0])
+            yield f"identity of order {n} over {p}", request(CHECK, p, n, identity), answer
+            yield f"zeros of order {n} over {p}", request(CHECK, p, n, [0] * (n * n)), line([0, 1, 0, 0, 0])
 
 
 def survey_lines():
@@ -55,7 +68,7 @@ def limit_lines():
 
 def reference_lines():
     """(name, request text, answer text)"""
-    for part in (search_lines, check_lines, survey_lines, field_lines, limit_lines):
+    for part in (search_lines, check_lines, zero_lines, survey_lines, field_lines, limit_lines):
         yield from part()
 
 

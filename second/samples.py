@@ -80,4 +80,37 @@ def shaped(dice, p, n):
     return hadamard(row)
 
 
+def of_density(dice, p, n, percent):
+    """Each entry is nonzero with this chance."""
+    top = (1 << degree(p)) - 1
+    return [dice.randint(1, top) if dice.randrange(100) < percent else 0 for _ in range(n * n)]
+
+
+def with_lines_of_zeros(dice, p, n):
+    """No zero but in whole lines, of which there is one or more."""
+    empty = dice.sample(range(n), dice.randint(1, n))
+    return [0 if k // n in empty else a for k, a in enumerate(of_density(dice, p, n, 100))]
+
+
+def with_columns_of_zeros(dice, p, n):
+    """The same of columns."""
+    entries = with_lines_of_zeros(dice, p, n)
+    return [entries[j * n + i] for i in range(n) for j in range(n)]
+
+
+def triangle(dice, p, n):
+    """Zeros before the diagonal and nowhere else."""
+    return [0 if k % n < k // n else a for k, a in enumerate(of_density(dice, p, n, 100))]
+
+
+def identity(_dice, _p, n):
+    return [int(i == j) for i in range(n) for j in range(n)]
+
+
+def zeros(_dice, _p, n):
+    return [0] * (n * n)
+
+
+WITH_ZEROS = (with_lines_of_zeros, with_columns_of_zeros, triangle, identity, zeros)
+DENSITIES = range(0, 101, 10)
 STYLES = (dense, sparse, low_rank, cauchy, spoilt, permutation, shaped)

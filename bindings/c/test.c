@@ -21,7 +21,7 @@ typedef struct {
 static const request_t REQUESTS[] = {
     {"a search", {1, 19, 4, 4, 1, 4, 9, 13}, "     0     6    18    72\n     1     4     9    13\n", 0},
     {"no row", {1, 19, 4, 4, 1, 2, 4, 8}, "     9\n", 9},
-    {"a check", {2, 7, 2, 4, 1, 0, 0, 1}, "     0     2     0     1     4\n", 0},
+    {"a check", {2, 7, 2, 4, 1, 0, 0, 1}, "     0     2     0     1     0\n", 0},
     {"a survey", {3, 2, 0, 0}, "     0     1\n     7     2     2\n", 0},
     /* The walk of order 8 that goes deepest, to blocks of size 4. */
     {"the slowest search",

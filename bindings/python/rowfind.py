@@ -4,7 +4,7 @@
     >>> rowfind.search(19, 4, [1, 4, 9, 13])
     Row(row=[1, 4, 9, 13], element_sum=6, row_count=18, matrix_count=72)
     >>> rowfind.check(7, [[1, 0], [0, 1]])
-    Check(branch_number=2, mds=False, involution=True, matrix_count=4)
+    Check(branch_number=2, mds=False, involution=True, matrix_count=0)
     >>> rowfind.survey(2)
     [Polynomial(polynomial=7, count_sum=2, square_sum=2)]
 

@@ -71,6 +71,7 @@ class Functions(unittest.TestCase):
         fips = [[2, 3, 1, 1], [1, 2, 3, 1], [1, 1, 2, 3], [3, 1, 1, 2]]
         self.assertEqual(rowfind.check(283, fips), rowfind.Check(5, True, False, 152))
         self.assertEqual(rowfind.check(7, [[0]]), rowfind.Check(1, False, False, 0))
+        self.assertEqual(rowfind.check(19, [[0, 0, 0], [0, 7, 0], [1, 2, 3]]), rowfind.Check(2, False, False, 23))
 
     def test_printed_matrices(self):
         right = [matrix for matrix in rowtext.printed_matrices() if "note" not in matrix]

@@ -2,7 +2,7 @@
 
 use crate::distance::{branch_number, lightest_word, Word};
 use crate::field::{degree, irreducible, Field, Fields};
-use crate::matrix::Matrix;
+use crate::matrix::{line_count, Matrix};
 use crate::search::lightest_row;
 use crate::text::{line_of, read_request, Request};
 
@@ -103,7 +103,7 @@ pub fn zero_or_repeated(values: &[u32]) -> bool {
 fn search_answer(field: &Field, request: &Request) -> Result<String, Refusal> {
     let candidates: Vec<u8> = request.values.iter().map(|&v| v as u8).collect();
     let found = lightest_row(field, request.order as usize, &candidates).ok_or(9u32)?;
-    let row_count = found.sum + (request.order - 1) * field.degree as u32;
+    let row_count = line_count(field, &found.row);
     let row: Vec<u32> = found.row.iter().map(|&h| h as u32).collect();
     Ok(line_of(&[0, found.sum, row_count, request.order * row_count]) + &line_of(&row))
 }
@@ -176,8 +176,11 @@ mod tests {
         assert_eq!(ask(2, 19, 4, &hadamard(&[1, 4, 9, 13])), [0, 5, 1, 1, 72]);
         let fips = [2, 3, 1, 1, 1, 2, 3, 1, 1, 1, 2, 3, 3, 1, 1, 2];
         assert_eq!(ask(2, 283, 4, &fips), [0, 5, 1, 0, 152]);
-        assert_eq!(ask(2, 7, 2, &[1, 0, 0, 1]), [0, 2, 0, 1, 4]);
+        assert_eq!(ask(2, 7, 2, &[1, 0, 0, 1]), [0, 2, 0, 1, 0]);
         assert_eq!(ask(2, 7, 1, &[0]), [0, 1, 0, 0, 0]);
+        assert_eq!(ask(2, 19, 3, &[0, 0, 0, 0, 7, 0, 1, 2, 3]), [0, 2, 0, 0, 23]);
+        let triangle = [2, 3, 1, 1, 0, 2, 3, 1, 0, 0, 2, 3, 0, 0, 0, 2];
+        assert_eq!(ask(2, 283, 4, &triangle), [0, 2, 0, 0, 93]);
     }
 
     #[test]

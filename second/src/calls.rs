@@ -13,7 +13,7 @@
 use crate::answer::{first_fault, zero_or_repeated, Refusal};
 use crate::distance::branch_number;
 use crate::field::{degree, irreducible, Field, Fields};
-use crate::matrix::{Matrix, MOST};
+use crate::matrix::{line_count, Matrix, MOST};
 use crate::search::lightest_row;
 
 pub const RECORD: usize = 88;
@@ -158,18 +158,12 @@ impl Call {
             MDS => value(is_mds() as u32),
             INVOLUTION => value(self.matrix().is_involution(field) as u32),
             MATRIX_COUNT => value(self.matrix().count(field)),
-            ROW_COUNT => value(self.row_count(field)),
+            ROW_COUNT => value(line_count(field, &self.words[..self.n()])),
             PLAIN => words(self.matrix().apply(field, &self.input())),
             HALVED => words(Matrix::hadamard(&self.entries[..self.n()]).apply(field, &self.input())),
             CHECK => self.check(field),
             _ => self.search(field)?,
         })
-    }
-
-    /// The sum of the elements' counts plus (n − 1)·m.
-    fn row_count(&self, field: &Field) -> u32 {
-        let elements: u32 = self.words[..self.n()].iter().map(|&a| field.xor_count(a)).sum();
-        elements + (self.first - 1) * field.degree as u32
     }
 
     fn check(&self, field: &Field) -> Yield {
@@ -259,8 +253,8 @@ mod tests {
     fn calls_of_a_matrix() {
         let identity = [1, 0, 0, 1];
         let numbers = [BRANCH_NUMBER, MDS, INVOLUTION, MATRIX_COUNT];
-        assert_eq!(numbers.map(|c| one(on_matrix(c, 7, 2, &identity, &[]))), [Ok(2), Ok(0), Ok(1), Ok(4)]);
-        assert_eq!(answer(on_matrix(CHECK, 7, 2, &identity, &[])).unwrap().values, [2, 0, 1, 4]);
+        assert_eq!(numbers.map(|c| one(on_matrix(c, 7, 2, &identity, &[]))), [Ok(2), Ok(0), Ok(1), Ok(0)]);
+        assert_eq!(answer(on_matrix(CHECK, 7, 2, &identity, &[])).unwrap().values, [2, 0, 1, 0]);
         let fips = [2, 3, 1, 1, 1, 2, 3, 1, 1, 1, 2, 3, 3, 1, 1, 2];
         assert_eq!(answer(on_matrix(CHECK, 283, 4, &fips, &[])).unwrap().values, [5, 1, 0, 152]);
         for c in BRANCH_NUMBER..=CHECK {
@@ -272,6 +266,8 @@ mod tests {
     fn row_counts() {
         let row = |n, words: [u8; 8]| one(Call { words, ..call(ROW_COUNT, 19, n, 0) });
         assert_eq!(row(4, [1, 4, 9, 13, 0, 0, 0, 0]), Ok(18));
+        assert_eq!(row(8, [1, 4, 9, 13, 0, 0, 0, 0]), Ok(18));
+        assert_eq!([1, 8].map(|n| row(n, [0; 8])), [Ok(0), Ok(0)]);
         // What stands behind the row is not looked at.
         assert_eq!(row(1, [9, 16, 0, 0, 0, 0, 0, 0]), Ok(1));
         assert_eq!(row(2, [9, 16, 0, 0, 0, 0, 0, 0]), Err(7));

@@ -65,11 +65,21 @@ impl Matrix {
         })
     }
 
-    /// Sum of the counts of all entries, plus n·(n − 1)·m.
+    /// The sum of the counts of its lines.
     pub fn count(&self, field: &Field) -> u32 {
-        let elements: u32 = self.entries.iter().flatten().map(|&a| field.xor_count(a)).sum();
-        elements + (self.order * (self.order - 1) * field.degree) as u32
+        self.entries.iter().take(self.order).map(|line| line_count(field, &line[..self.order])).sum()
     }
+}
+
+/// The XORs of a line, counted at its output bits: one that joins t input bits takes t − 1, one that joins none takes none.
+pub fn line_count(field: &Field, line: &[u8]) -> u32 {
+    (0..field.degree).map(|bit| joined(field, line, bit).saturating_sub(1)).sum()
+}
+
+/// How many input bits an output bit of a line joins: bit k of word j where entry j times 2^k has the output bit.
+fn joined(field: &Field, line: &[u8], bit: usize) -> u32 {
+    let ones = |a: u8| (0..field.degree).map(|k| u32::from(field.product(a, 1 << k) >> bit & 1)).sum::<u32>();
+    line.iter().map(|&a| ones(a)).sum()
 }
 
 #[cfg(test)]
@@ -93,6 +103,29 @@ mod tests {
         brute::for_small_matrices(|field, matrix| {
             assert_eq!(matrix.is_involution(field), brute::is_involution(field, matrix), "{matrix:?}");
         });
+    }
+
+    #[test]
+    fn a_line_counts_its_elements_and_the_sums_of_its_nonzero_entries() {
+        brute::for_small_matrices(|field, matrix| {
+            for line in &matrix.entries[..matrix.order] {
+                let elements: u32 = line.iter().map(|&a| field.xor_count(a)).sum();
+                let sums = brute::weight(line).saturating_sub(1) * field.degree;
+                assert_eq!(line_count(field, &line[..matrix.order]), elements + sums as u32, "{line:?}");
+            }
+        });
+    }
+
+    #[test]
+    fn zeros_cost_nothing() {
+        for m in 2..=8 {
+            let field = Field::new([7, 11, 19, 37, 67, 131, 283][m - 2]);
+            for n in 1..=MOST {
+                assert_eq!(Matrix::from_entries(n, |_, _| 0).count(&field), 0);
+                assert_eq!(Matrix::from_entries(n, |i, j| (i == j) as u8).count(&field), 0);
+                assert_eq!(Matrix::from_entries(n, |_, _| 1).count(&field) as usize, n * (n - 1) * m);
+            }
+        }
     }
 
     #[test]

@@ -47,7 +47,7 @@ fn an_accepted_search() {
 #[test]
 fn an_accepted_check() {
     let request = text(&[&[2, 7, 2, 4], &[1, 0, 0, 1]]);
-    let expected = text(&[&[0, 2, 0, 1, 4]]);
+    let expected = text(&[&[0, 2, 0, 1, 0]]);
     check_spaces(&request, &expected, 0, expected.len() + 1);
 }
 

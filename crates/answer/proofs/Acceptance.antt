@@ -3,7 +3,7 @@
 use mathlib.Core.Path.{_≡_, refl, _∙_}
 use mathlib.Core.Bool.{not, _||_}
 use mathlib.Core.List.{List, [], _∷_, map}
-use Prim.Native.Nat.{ℕ, zero, suc, _+_, _*_, _≤_, _<_, zero-le, suc-le-suc}
+use Prim.Native.Nat.{ℕ, zero, suc, _+_, _*_, _^_, _≤_, _<_, zero-le, suc-le-suc}
 use native.Mathlib.Nat.{le-trans, mul-le-mul}
 use native.Mathlib.Omega.{arith}
 use borrow.Author.Tests.{eqb-true, not-false}
@@ -11,7 +11,7 @@ use lib.Dec.{eqb, ltb, lit≤}
 use lib.ListN.{length, getD}
 use Rattle.refusal.specs.Refusals.{firstNumber}
 use Rattle.refusal.proofs.Faults.{first-passed, applies-most, none-first}
-use Rattle.field.specs.Polynomial.{Modulus}
+use Rattle.field.specs.Polynomial.{Modulus, degree}
 use Rattle.field.specs.Table.{polynomials}
 use Rattle.field.proofs.Calls.{not-too-large, modulus-parts}
 use Rattle.matrix.specs.Answers.{checkOf, isWrongOrder}
@@ -70,12 +70,17 @@ one-six : (a : List ℕ) → SixDigits a → (i : ℕ) → SixDigits (getD (a �
 one-six a h zero = h
 one-six a h (suc i) = six-none
 
-check-fits : FitsWhere check
-unfolding check checkFaults checkLines checkOf entriesOf
-check-fits r e =
-    let p = r .polynomial in
-    let n = r .order in
-    let v = r .values in
+-- what an accepted check has shown
+pub record CheckAccepted (p n : ℕ) (values : List ℕ) : Type 0 where
+  pub modulus : Modulus p
+  pub low : 1 ≤ n
+  pub high : n ≤ 8
+  pub square : length values ≡ n * n
+  pub small : (k : ℕ) → k < n * n → getD values k 0 < 2 ^ degree p
+
+pub check-accepted : (p n : ℕ) (values : List ℕ) → firstNumber (checkFaults p n values) ≡ 0 → CheckAccepted p n values
+unfolding checkFaults
+check-accepted p n v e =
     let (modulus, e₄) = modulus-parts p _ e in
     let (order, e₅) = first-passed 5 0 (isWrongOrder n) _ (λ h. omega arith) e₄ in
     let (count, e₆) = first-passed 6 0 (not (eqb (length v) (n * n))) _ (λ h. omega arith) e₅ in
@@ -83,7 +88,22 @@ check-fits r e =
     let square : length v ≡ n * n = eqb-true (length v) (n * n) (not-false _ count) in
     let orders = order-passes n order in
     record {
-      six = one-six _ (six-check p n (entriesOf n v) modulus (orders .0) (orders .1) (λ i j a b. not-too-large p _ (fits-at p v large (i * n + j) (rw square (place-below n i j a b)))));
+      modulus = modulus;
+      low = orders .0;
+      high = orders .1;
+      square = square;
+      small = λ k l. not-too-large p _ (fits-at p v large k (rw square l));
+    }
+
+check-fits : FitsWhere check
+unfolding check checkLines checkOf entriesOf
+check-fits r e =
+    let p = r .polynomial in
+    let n = r .order in
+    let v = r .values in
+    let c = check-accepted p n v e in
+    record {
+      six = one-six _ (six-check p n (entriesOf n v) (c .modulus) (c .low) (c .high) (λ i j a b. c .small (i * n + j) (place-below n i j a b)));
       short = omega (arith, one-length (0 ∷ checkOf p n (entriesOf n v)));
     }
 

@@ -19,11 +19,13 @@ use Rattle.refusal.proofs.Faults.{numbered, number-not-zero, first-passed, afte
 use Rattle.field.specs.Polynomial.{Modulus, degree}
 use Rattle.field.specs.Faults.{polynomialFaults}
 use Rattle.field.proofs.Calls.{modulus-parts, elements-most}
-use Rattle.matrix.specs.Counts.{elementCount, rowCount}
+use Rattle.matrix.specs.Counts.{elementCount, additionCount, rowCount}
 use Rattle.matrix.proofs.Tallies.{elementCount-le}
 use Rattle.search.specs.Lightest.{Best, nothing, found}
 use Rattle.search.specs.Shape.{isGood, hadamardShape}
 use Rattle.search.specs.Answer.{sumOf, lightestRow, isWrongSearchOrder, isWrongSearchCount, someTooLarge, someBad, isNone, searchFaults, RowFound, noRow, rowFound, searchAnswer, keyOf, saysOutcome}
+use Rattle.search.proofs.Demands.{NoZero, over-nonzero}
+use Rattle.search.proofs.LetterCounts.{member-nonzero}
 use Rattle.search.proofs.Rows.{mem-rows, sorted-rows}
 use Rattle.search.proofs.Lightest.{row-sorted}
 use Rattle.search.proofs.Refusals.{order-of, count-four, count-eight}
@@ -105,6 +107,7 @@ pub record Accepted (p n : ℕ) (values : List ℕ) : Type 0 where
   pub lightest : lightestRow hadamardShape p n values ≡ found row
   pub entries : length row ≡ n
   pub small : (j : ℕ) → getD row j 0 ≤ 255
+  pub nonzero : NoZero n row
 
 row-there : (best : Best) → isNone best ≡ false → (row : List ℕ) × (best ≡ found row)
 row-there nothing e = absurd (true≢false e)
@@ -142,6 +145,7 @@ search-accepted p n values e =
       lightest = there .1;
       entries = row .0;
       small = small-entries 255 (there .0) (λ a m. let l = row .1 a m .1 in omega (arith, l, elements-most p modulus));
+      nonzero = over-nonzero n values (there .0) (member-nonzero values bad) (row .0) (λ a m. row .1 a m .0);
     }
 
 -- ---- what is due, from what the search says
@@ -199,8 +203,8 @@ six-take n l h i = elim (decLt i n) [
   | no m ↦ rw (List·getD-eq-default (take n l) 0 {n = i} (omega (arith, length-take n l, m))) zero-le
 ]
 
--- the row count is the sum of the element counts and (n - 1)·m
-pub row-lines : (p n sum count : ℕ) (row : List ℕ) → sum ≡ sumOf p n row → count ≡ sum + (n - 1) * degree p
+-- the row count is the sum of the element counts and the additions
+pub row-lines : (p n sum count : ℕ) (row : List ℕ) → sum ≡ sumOf p n row → count ≡ sum + additionCount p n (λ j. getD row j 0)
     → (0 ∷ sum ∷ count ∷ n * count ∷ []) ∷ row ∷ [] ≡ rowLines p n row
 unfolding rowLines sumOf rowCount
 row-lines p n sum count row e f = rw (f, e)

@@ -15,4 +15,5 @@ pub mod WholeInput
 pub mod SurveyLines
 pub mod Lines
 pub mod RowCounts
+pub mod AsBefore
 pub mod FewCandidates

@@ -21,7 +21,7 @@ use Rattle.field.proofs.Irreducibility.{irreducible-to}
 use Rattle.field.specs.Table.{polynomials, passing}
 use Rattle.field.specs.Faults.{isOutside, isTooLarge, polynomialFaults, inverseFaults}
 use Rattle.matrix.specs.Numbers.{elements}
-use Rattle.matrix.specs.Counts.{total, elementCount, rowCount, matrixCount}
+use Rattle.matrix.specs.Counts.{total, elementCount, additionCount, rowCount, matrixCount}
 use Rattle.matrix.specs.Answers.{checkOf, isWrongOrder, isWrongHalvedOrder, someWordTooLarge, someEntryTooLarge, determinantFaults, matrixFaults, halvedFaults}
 use Rattle.search.specs.Lightest.{member, Best, nothing, found}
 use Rattle.search.specs.Shape.{hadamardShape}
@@ -131,11 +131,11 @@ and-texts d h e rest = _and_ {line = texts _ _} (d, h, e) rest
 
 -- the elements, the searches, the example and the checks, line by line
 elements-hold : AllReferenceSay elementLines
-unfolding ReferenceSays elementLines power det sum without skip entriesOf xorCount onesInColumns ones onesIn product rem reduce degree overDigits digitsWithin _⊗_ _⊕_
-elements-hold = refl and refl and refl and refl and refl and refl and all-none
+unfolding ReferenceSays elementLines power det sum without skip entriesOf matrixCount rowCount elementCount additionCount total weight tabulate xorCount onesInColumns ones onesIn product rem reduce degree overDigits digitsWithin _⊗_ _⊕_
+elements-hold = refl and refl and refl and refl and refl and refl and refl and refl and refl and all-none
 
 searches-hold : AllReferenceSay searches
-unfolding ReferenceSays searches fits allSix isOutside isIrreducible someBelow searchFaults polynomialFaults firstNumber isWrongSearchOrder isWrongSearchCount someTooLarge isTooLarge someBad someRepeated member sumOf rowLines rowCount elementCount total xorCount onesInColumns ones onesIn product rem reduce degree overDigits digitsWithin _⊗_ _⊕_
+unfolding ReferenceSays searches fits allSix isOutside isIrreducible someBelow searchFaults polynomialFaults firstNumber isWrongSearchOrder isWrongSearchCount someTooLarge isTooLarge someBad someRepeated member sumOf rowLines rowCount elementCount additionCount total weight tabulate xorCount onesInColumns ones onesIn product rem reduce degree overDigits digitsWithin _⊗_ _⊕_
 searches-hold =
     let (powers, three, few, four, fifteen) = over-nineteen in
     is-due 1 19 4 _ refl (answer 9 []) (fixed 1 [] (λ h. omega arith)) (search-due 19 4 _ _ powers)
@@ -148,14 +148,14 @@ searches-hold =
     and all-none
 
 example-holds : AllReferenceSay example
-unfolding ReferenceSays example fits allSix isOutside isIrreducible someBelow searchFaults polynomialFaults firstNumber isWrongSearchOrder isWrongSearchCount someTooLarge isTooLarge someBad someRepeated member sumOf rowLines rowCount elementCount total xorCount onesInColumns ones onesIn product rem reduce degree overDigits digitsWithin _⊗_ _⊕_ requestText answerText lineText columns column columnByte valueText lineEnd tabulate bytesOf
+unfolding ReferenceSays example fits allSix isOutside isIrreducible someBelow searchFaults polynomialFaults firstNumber isWrongSearchOrder isWrongSearchCount someTooLarge isTooLarge someBad someRepeated member sumOf rowLines rowCount elementCount additionCount total weight tabulate xorCount onesInColumns ones onesIn product rem reduce degree overDigits digitsWithin _⊗_ _⊕_ requestText answerText lineText columns column columnByte valueText lineEnd bytesOf
 example-holds =
     let worked = is-due 1 19 4 (1 ∷ 4 ∷ 9 ∷ 13 ∷ []) refl _ (fixed 1 _ (λ h. omega arith)) (search-due 19 4 _ _ (over-nineteen .3)) in
     let seventeen = is-due 1 19 8 (from-one 17) refl (answer 6 []) (fixed 1 [] (λ h. omega arith)) (search-due 19 8 _ _ refl) in
     worked and and-texts _ worked refl (and-texts _ seventeen refl all-none)
 
 checks-hold : AllReferenceSay checks
-unfolding ReferenceSays checks fits allSix dueTo kinds kindAmong search check survey answerAfter firstNumber checkFaults polynomialFaults isWrongOrder checkLines checkOf entriesOf matrixCount elementCount total isOutside isIrreducible someBelow someTooLarge isTooLarge branchNumber leastActivity activity weight words before tabulate upTo elements apply sum isMds isInvolution givesBack sameWords surveyFaults surveyLines surveyLine polynomials passing xorCount onesInColumns ones onesIn product rem reduce degree overDigits digitsWithin _⊗_ _⊕_
+unfolding ReferenceSays checks fits allSix dueTo kinds kindAmong search check survey answerAfter firstNumber checkFaults polynomialFaults isWrongOrder checkLines checkOf entriesOf matrixCount rowCount elementCount additionCount total isOutside isIrreducible someBelow someTooLarge isTooLarge branchNumber leastActivity activity weight words before tabulate upTo elements apply sum isMds isInvolution givesBack sameWords surveyFaults surveyLines surveyLine polynomials passing xorCount onesInColumns ones onesIn product rem reduce degree overDigits digitsWithin _⊗_ _⊕_
 checks-hold =
     is-due 2 7 2 _ refl _ (fixed 2 _ (λ h. omega arith)) refl
     and is-due 2 7 1 _ refl _ (fixed 2 _ (λ h. omega arith)) refl

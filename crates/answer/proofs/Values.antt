@@ -11,14 +11,14 @@ use lib.Dec.{eqb, ltb}
 use lib.ListN.{length, getD, drop}
 use Rattle.algebra.specs.Matrix.{isMds, isInvolution}
 use Rattle.algebra.proofs.Bridge.{branch-cong, mds-cong, involution-cong}
-use Rattle.field.specs.Polynomial.{Modulus, degree, xorCount}
+use Rattle.field.specs.Polynomial.{Modulus, degree}
 use Rattle.field.specs.Faults.{isTooLarge}
 use Rattle.field.proofs.Calls.{not-too-large}
 use Rattle.matrix.specs.Numbers.{numbers, elements}
-use Rattle.matrix.specs.Counts.{total, elementCount, rowCount, matrixCount}
+use Rattle.matrix.specs.Counts.{rowCount, matrixCount}
 use Rattle.matrix.specs.Answers.{yesNo, checkOf}
 use Rattle.matrix.proofs.CallFaults.{or-none}
-use Rattle.matrix.proofs.Tallies.{rowCount-le, total-rows, total-le, total-cong}
+use Rattle.matrix.proofs.Tallies.{rowCount-le, rowCount-cong, total-rows, total-le, total-cong}
 use Rattle.matrix.proofs.Theorems.{branch-most}
 use Rattle.search.specs.Answer.{someTooLarge}
 use Rattle.search.proofs.LetterCounts.{fits-at}
@@ -70,11 +70,8 @@ unfolding entriesOf
 entries-read s n i j l m = value-read s (n * n) (i * n + j) (place-below n i j l m)
 
 matrixCount-cong : (p n : ℕ) (f g : ℕ → ℕ → ℕ) → ((i j : ℕ) → i < n → j < n → f i j ≡ g i j) → matrixCount p n f ≡ matrixCount p n g
-unfolding matrixCount elementCount
-matrixCount-cong p n f g e =
-    ap (λ (k : ℕ). k + n * (n - 1) * degree p)
-    (total-cong n (λ i. total n (λ j. xorCount p (f i j))) (λ i. total n (λ j. xorCount p (g i j)))
-    (λ i l. total-cong n (λ j. xorCount p (f i j)) (λ j. xorCount p (g i j)) (λ j m. ap (xorCount p) (e i j l m))))
+unfolding matrixCount
+matrixCount-cong p n f g e = total-cong n _ _ (λ i l. rowCount-cong p n (f i) (g i) (λ j m. e i j l m))
 
 -- only the entries below the order count
 pub check-cong : (p n : ℕ) (f g : ℕ → ℕ → ℕ) → ((i j : ℕ) → i < n → j < n → f i j ≡ g i j) → checkOf p n f ≡ checkOf p n g

@@ -11,6 +11,7 @@ use Rattle.algebra.specs.Matrix.{tabulate, det}
 use Rattle.field.specs.Polynomial.{_⊕_, product, xorCount}
 use Rattle.field.specs.Faults.{inverseFaults}
 use Rattle.matrix.specs.Numbers.{numbers}
+use Rattle.matrix.specs.Counts.{matrixCount}
 use Rattle.matrix.specs.Answers.{determinantFaults, matrixFaults, halvedFaults}
 use Rattle.refusal.specs.Refusals.{Fault, firstNumber, Answer, answer}
 use Rattle.text.specs.Text.{requestText}
@@ -29,6 +30,8 @@ pub data ReferenceLine : Type 0 where
   sums : List ℕ → ℕ → ReferenceLine
   -- over the polynomial the matrix of this order with these entries has this determinant
   determinants : ℕ → ℕ → List ℕ → ℕ → ReferenceLine
+  -- over the polynomial the matrix of this order with these entries has this XOR count
+  matrix-counts : ℕ → ℕ → List ℕ → ℕ → ReferenceLine
   -- to the request of this kind, polynomial, order and values this is due
   requests : ℕ → ℕ → ℕ → List ℕ → Answer (List (List ℕ)) → ReferenceLine
   -- such a request is not refused with this number
@@ -61,6 +64,7 @@ ReferenceSays (products p a b c) = product p a b ≡ c
 ReferenceSays (powers p a k c) = power p a k ≡ c
 ReferenceSays (sums elements total) = foldl _⊕_ 0 elements ≡ total
 ReferenceSays (determinants p n entries c) = det (numbers p) n (entriesOf n entries) ≡ c
+ReferenceSays (matrix-counts p n entries c) = matrixCount p n (entriesOf n entries) ≡ c
 ReferenceSays (requests kind polynomial order values d) = IsDue (requestText kind polynomial order values) d
 ReferenceSays (not-given kind polynomial order values number) = due (requestText kind polynomial order values) .number ≢ number
 ReferenceSays (calls faults number) = firstNumber faults ≡ number
@@ -73,7 +77,8 @@ pub data AllReferenceSay : List ReferenceLine → Type 0 where
   all-none : AllReferenceSay []
   _and_ : {line : ReferenceLine} {rest : List ReferenceLine} → ReferenceSays line → AllReferenceSay rest → AllReferenceSay (line ∷ rest)
 
--- elements over 19, and over 31; determinants
+-- elements over 19, and over 31; determinants; the counts of a matrix whose lines have no, one and three nonzero entries, of the FIPS 197 matrix and
+-- of its upper triangle
 unfoldable pub elementLines : List ReferenceLine
 elementLines =
     counts 19 (0 ∷ 1 ∷ 2 ∷ 3 ∷ 4 ∷ 5 ∷ 6 ∷ 7 ∷ 8 ∷ 9 ∷ 10 ∷ 11 ∷ 12 ∷ 13 ∷ 14 ∷ 15 ∷ []) (0 ∷ 0 ∷ 1 ∷ 5 ∷ 2 ∷ 6 ∷ 5 ∷ 9 ∷ 3 ∷ 1 ∷ 8 ∷ 6 ∷ 5 ∷ 3 ∷ 8 ∷ 6 ∷ []) ∷
@@ -82,6 +87,9 @@ elementLines =
     powers 31 2 5 1 ∷
     determinants 19 2 (2 ∷ 3 ∷ 4 ∷ 5 ∷ []) 6 ∷
     determinants 19 3 (1 ∷ 2 ∷ 3 ∷ 4 ∷ 5 ∷ 6 ∷ 7 ∷ 8 ∷ 9 ∷ []) 9 ∷
+    matrix-counts 19 3 (0 ∷ 0 ∷ 0 ∷ 0 ∷ 7 ∷ 0 ∷ 1 ∷ 2 ∷ 3 ∷ []) 23 ∷
+    matrix-counts 283 4 (2 ∷ 3 ∷ 1 ∷ 1 ∷ 1 ∷ 2 ∷ 3 ∷ 1 ∷ 1 ∷ 1 ∷ 2 ∷ 3 ∷ 3 ∷ 1 ∷ 1 ∷ 2 ∷ []) 152 ∷
+    matrix-counts 283 4 (2 ∷ 3 ∷ 1 ∷ 1 ∷ 0 ∷ 2 ∷ 3 ∷ 1 ∷ 0 ∷ 0 ∷ 2 ∷ 3 ∷ 0 ∷ 0 ∷ 0 ∷ 2 ∷ []) 93 ∷
     []
 
 -- searches over 19, order 4
@@ -99,9 +107,9 @@ searches =
 -- checks over 7: the identity of order 2, order 1 with entry 0, and a matrix that is not its own transpose; the surveys of degrees 2 and 3
 unfoldable pub checks : List ReferenceLine
 checks =
-    requests 2 7 2 (1 ∷ 0 ∷ 0 ∷ 1 ∷ []) (answer 0 ((0 ∷ 2 ∷ 0 ∷ 1 ∷ 4 ∷ []) ∷ [])) ∷
+    requests 2 7 2 (1 ∷ 0 ∷ 0 ∷ 1 ∷ []) (answer 0 ((0 ∷ 2 ∷ 0 ∷ 1 ∷ 0 ∷ []) ∷ [])) ∷
     requests 2 7 1 (0 ∷ []) (answer 0 ((0 ∷ 1 ∷ 0 ∷ 0 ∷ 0 ∷ []) ∷ [])) ∷
-    requests 2 7 2 (1 ∷ 1 ∷ 0 ∷ 0 ∷ []) (answer 0 ((0 ∷ 2 ∷ 0 ∷ 0 ∷ 4 ∷ []) ∷ [])) ∷
+    requests 2 7 2 (1 ∷ 1 ∷ 0 ∷ 0 ∷ []) (answer 0 ((0 ∷ 2 ∷ 0 ∷ 0 ∷ 2 ∷ []) ∷ [])) ∷
     requests 3 2 0 [] (answer 0 ((0 ∷ 1 ∷ []) ∷ (7 ∷ 2 ∷ 2 ∷ []) ∷ [])) ∷
     surveys 3 ((0 ∷ 2 ∷ []) ∷ (11 ∷ 15 ∷ 47 ∷ []) ∷ (13 ∷ 15 ∷ 47 ∷ []) ∷ []) ∷
     []

@@ -63,7 +63,7 @@ fn put_row(space: &mut [u8], p: u16, n: usize, sum: u32, row: [u8; 8]) -> Reply
     ensures { λ r. ⌜ Replied (answer 0 (rowLines p n (take n row))) (now (space .entry)) (now (space .exit)) (r .number) (r .length) ⌝ }
 {
     let order = n as u32;
-    let count = sum + (order - 1) * field::degree(p) as u32;
+    let count = sum + matrix::count::addition_count(p, row, n);
     let entries = widened(row);
     put_answers(space, &[0, sum, count, order * count], &entries[..n])
 }

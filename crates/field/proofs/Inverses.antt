@@ -1,9 +1,9 @@
 -- Over an irreducible polynomial every nonzero element has an inverse, exactly one; no product of nonzero elements is 0; squaring is
--- injective; and the columns of a nonzero element's bit matrix are nonzero. For all degrees together. Assumes nothing.
+-- injective; the columns of a nonzero element's bit matrix are nonzero; and 1 counts 0. For all degrees together. Assumes nothing.
 use mathlib.Core.Path.{_≡_, refl, sym, ap, ap₂, _∙_}
 use mathlib.Core.Bool.{Bool, true, false}
 use mathlib.Core.Logic.{_⊎_, ⊎-elim}
-use Prim.Native.Nat.{ℕ, zero, suc, _-_, _*_, _/_, _^_, _≤_, _<_, suc-le-suc, zero-le}
+use Prim.Native.Nat.{ℕ, zero, suc, _+_, _-_, _*_, _/_, _^_, _≤_, _<_, suc-le-suc, zero-le}
 use native.Mathlib.Nat.{le-trans, le-refl, le-suc, lt-of-lt-of-le, lt-of-le-of-lt, lt-of-not-le, le-of-suc-le-suc, not-suc-le-zero, zero-lt-suc, eq-zero-or-pos, eq-or-lt-of-le}
 use native.Mathlib.Decide.{decLe}
 use native.Mathlib.Omega.{arith}
@@ -11,7 +11,7 @@ use borrow.Author.Tests.{eq-eqb, ne-eqb}
 use lib.Dec.{eqb}
 use lib.Arith.{bin-ind}
 use lib.Pow.{pow-pos, pow-mono, pow-lt}
-use lib.Count.{ones, ones-step, ones-le}
+use lib.Count.{ones, onesIn, ones-step, ones-cat, ones-le}
 use Rattle.field.specs.Polynomial.{_⊕_, _⊗_, degree, rem, Irreducible, product, orNext, firstBelow, inverse, onesInColumns, xorCount}
 use Rattle.field.proofs.Sum.{sum-zero-l, sum-move, sum-equal, sum-lt, sums}
 use Rattle.field.proofs.Ring.{product-zero-l, product-one-l, products}
@@ -227,3 +227,19 @@ columns-most p m a zero d u = zero-le
 columns-most p m a (suc k) d u =
     omega
     (arith, columns-most p m a k d u, ones-le 8 (product p a (2 ^ k)) (lt-of-lt-of-le (times-lt p m d a (2 ^ k)) (pow-mono {j = 8} u)))
+
+-- a power of 2 has one set bit
+ones-power : (k : ℕ) → ones (2 ^ k) ≡ 1
+unfolding ones onesIn
+ones-power k = let e : 2 ^ k ≡ 1 * 2 ^ k + 0 = omega arith in ap ones e ∙ ones-cat k 1 0 (pow-pos k)
+
+-- each column of the bit matrix of 1 is a power of 2
+columns-of-one : (p m k : ℕ) → HasDegree p m → k ≤ m → onesInColumns p 1 k ≡ k
+unfolding onesInColumns
+columns-of-one p m zero d l = refl
+columns-of-one p m (suc k) d l =
+    omega (arith, columns-of-one p m k d (omega arith), ap ones (times-one-l p m d (2 ^ k) (pow-lt l)) ∙ ones-power k)
+
+-- the count of 1 is 0
+pub count-of-one : (p : ℕ) → HasDegree p (degree p) → xorCount p 1 ≡ 0
+count-of-one p d = count-positive p 1 (zero-lt-suc 0) ∙ omega (arith, columns-of-one p (degree p) (degree p) d (le-refl (degree p)))

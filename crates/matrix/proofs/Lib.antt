@@ -13,6 +13,7 @@ pub mod Masks
 pub mod Regularity
 pub mod CallFaults
 pub mod Tallies
+pub mod CountsBefore
 pub mod Elimination
 pub mod Trials
 pub mod Least

@@ -2,7 +2,9 @@
 -- number order plus one, and every other row over these elements with both properties has a larger XOR count, or the same count
 -- and a later place. `demand-three-none`: nothing is answered exactly if no row over these elements has both properties.
 -- `demand-three-only`: no other row is demanded. `order-of-candidates`: the order of the brief's elements does not matter.
--- They are the theorems `shape-row`, `shape-none`, `shape-only` of any shape, at Hadamard matrices. Assumes nothing.
+-- They are the theorems `shape-row`, `shape-none`, `shape-only` of any shape, at Hadamard matrices. What compares counts takes the brief's
+-- elements to be nonzero, as document 01 has them: with a 0 in a row the sums of element counts would not compare as the counts do.
+-- Assumes nothing.
 use mathlib.Core.Path.{_≡_, refl, sym, _∙_}
 use mathlib.Core.Logic.{_≢_, _↔_, _⊎_, inl, inr, ⊎-elim}
 use mathlib.Core.Bool.{Bool, true, false, not, _||_, true≢false, false≢true}
@@ -10,17 +12,17 @@ use mathlib.Core.List.{List, List·Memᴰ}
 use Prim.Native.Nat.{ℕ, suc, _+_, _-_, _*_, _^_, _<_}
 use native.Mathlib.Omega.{arith}
 use borrow.Author.Tests.{eqb-true, eq-eqb}
-use lib.ListN.{length}
+use lib.ListN.{length, getD}
 use Rattle.algebra.specs.Matrix.{hadamard, branchNumber, isMds, isInvolution}
 use Rattle.algebra.proofs.Involution.{and-left, and-right}
 use Rattle.field.specs.Polynomial.{degree}
 use Rattle.matrix.specs.Numbers.{numbers, elements}
-use Rattle.matrix.specs.Counts.{rowCount}
+use Rattle.matrix.proofs.Tallies.{full-line}
 use Rattle.search.specs.Lightest.{Earlier, nothing, found, rowsOver}
 use Rattle.search.specs.Shape.{Shape, rowMatrix, isGood, hadamardShape}
 use Rattle.search.specs.Answer.{keyOf, lightestRow}
 use Rattle.search.specs.Demands.{countOfRow, Before, FirstOf, Both, Demanded}
-use Rattle.search.proofs.Rows.{mem-rows, sorted-rows, not-passed}
+use Rattle.search.proofs.Rows.{mem-rows, sorted-rows, getD-mem, not-passed}
 use Rattle.search.proofs.Lightest.{none-sorted, row-sorted, unique-sorted, same-answer}
 
 -- a row over the brief's elements with what a shape asks for: its matrix of that shape has branch number order plus one, and is an
@@ -33,21 +35,30 @@ pub record Suited (shape : Shape) (p n : ℕ) (candidates row : List ℕ) : Type
 
 -- ---- counts
 
--- the row's count is the key and a number that only the order and the polynomial decide
-pub count-key : (p n : ℕ) (row : List ℕ) → countOfRow p n row ≡ keyOf p n row + (n - 1) * degree p
-unfolding rowCount keyOf
-count-key p n row = refl
+-- none of the first n entries is 0
+abbrev pub NoZero : ℕ → List ℕ → Type 0
+NoZero n row = (j : ℕ) → j < n → getD row j 0 ≢ 0
+
+-- nor is one of a row over candidates without 0
+pub over-nonzero : (n : ℕ) (candidates row : List ℕ) → ((a : ℕ) → List·Memᴰ a candidates → a ≢ 0) → length row ≡ n
+    → ((a : ℕ) → List·Memᴰ a row → List·Memᴰ a candidates) → NoZero n row
+over-nonzero n candidates row nonzero e over j l = nonzero _ (over _ (getD-mem row j 0 (rw e l)))
+
+-- the count of a row without zeros is the key and a number that only the order and the polynomial decide
+pub count-key : (p n : ℕ) (row : List ℕ) → NoZero n row → countOfRow p n row ≡ keyOf p n row + (n - 1) * degree p
+unfolding keyOf
+count-key p n row h = full-line p n (λ j. getD row j 0) h
 
 -- the order of keys is that of counts
-pub key-before : (p n : ℕ) (r s : List ℕ) → (keyOf p n r < keyOf p n s) ⊎ ((keyOf p n r ≡ keyOf p n s) × Earlier r s) → Before p n r s
-key-before p n r s h =
-    ⊎-elim (λ (l : keyOf p n r < keyOf p n s). inl (omega (arith, count-key p n r, count-key p n s)))
-    (λ q. inr (omega (arith, q .0, count-key p n r, count-key p n s), q .1)) h
+pub key-before : (p n : ℕ) (r s : List ℕ) → NoZero n r → NoZero n s → (keyOf p n r < keyOf p n s) ⊎ ((keyOf p n r ≡ keyOf p n s) × Earlier r s) → Before p n r s
+key-before p n r s x y h =
+    ⊎-elim (λ (l : keyOf p n r < keyOf p n s). inl (omega (arith, count-key p n r x, count-key p n s y)))
+    (λ q. inr (omega (arith, q .0, count-key p n r x, count-key p n s y), q .1)) h
 
-pub before-key : (p n : ℕ) (r s : List ℕ) → Before p n r s → (keyOf p n r < keyOf p n s) ⊎ ((keyOf p n r ≡ keyOf p n s) × Earlier r s)
-before-key p n r s h =
-    ⊎-elim (λ (l : countOfRow p n r < countOfRow p n s). inl (omega (arith, count-key p n r, count-key p n s)))
-    (λ q. inr (omega (arith, q .0, count-key p n r, count-key p n s), q .1)) h
+pub before-key : (p n : ℕ) (r s : List ℕ) → NoZero n r → NoZero n s → Before p n r s → (keyOf p n r < keyOf p n s) ⊎ ((keyOf p n r ≡ keyOf p n s) × Earlier r s)
+before-key p n r s x y h =
+    ⊎-elim (λ (l : countOfRow p n r < countOfRow p n s). inl (omega (arith, count-key p n r x, count-key p n s y)))
+    (λ q. inr (omega (arith, q .0, count-key p n r x, count-key p n s y), q .1)) h
 
 -- ---- any shape
 
@@ -81,15 +92,6 @@ module _ (shape : Shape) (p n : ℕ) (candidates : List ℕ) (fits : (a : ℕ) �
     rw (asked-where (shape .involutory) _ (b .involution)) (eq-eqb _ (suc n) (b .branch)),
   )
 
-  pub shape-row : (r : List ℕ) → lightestRow shape p n candidates ≡ found r → FirstOf (Suited shape p n candidates) p n r
-  unfolding lightestRow
-  shape-row r e =
-      let d = row-sorted (isGood shape p n) (keyOf p n) (sorted-rows (2 ^ degree p) candidates n) r e in
-      record {
-        has = suited-of r (d .isRow) (d .isGood);
-        first = λ s b q. let (m, g) = of-suited s b in key-before p n r s (d .isFirst s m g q);
-      }
-
   pub shape-none : (lightestRow shape p n candidates ≡ nothing) ↔ ((r : List ℕ) → Suited shape p n candidates r → ⊥)
   unfolding lightestRow
   shape-none =
@@ -98,12 +100,32 @@ module _ (shape : Shape) (p n : ℕ) (candidates : List ℕ) (fits : (a : ℕ) �
         λ h. none .1 (λ r m. not-passed (isGood shape p n r) (λ g. h r (suited-of r m g))),
       )
 
-  pub shape-only : (r : List ℕ) → FirstOf (Suited shape p n candidates) p n r → lightestRow shape p n candidates ≡ found r
-  unfolding lightestRow
-  shape-only r d =
-      let (m, g) = of-suited r (d .has) in
-      unique-sorted (isGood shape p n) (keyOf p n) (sorted-rows (2 ^ degree p) candidates n) r
-      (record { isRow = m; isGood = g; isFirst = λ s i t q. before-key p n r s (d .first s (suited-of s i t) q) })
+  module _ (nonzero : (a : ℕ) → List·Memᴰ a candidates → a ≢ 0) where
+    suited-nonzero : (r : List ℕ) → Suited shape p n candidates r → NoZero n r
+    suited-nonzero r b = over-nonzero n candidates r nonzero (b .entries) (b .over)
+
+    pub shape-row : (r : List ℕ) → lightestRow shape p n candidates ≡ found r → FirstOf (Suited shape p n candidates) p n r
+    unfolding lightestRow
+    shape-row r e =
+        let d = row-sorted (isGood shape p n) (keyOf p n) (sorted-rows (2 ^ degree p) candidates n) r e in
+        let h = suited-of r (d .isRow) (d .isGood) in
+        record {
+          has = h;
+          first = λ s b q. let (m, g) = of-suited s b in key-before p n r s (suited-nonzero r h) (suited-nonzero s b) (d .isFirst s m g q);
+        }
+
+    pub shape-only : (r : List ℕ) → FirstOf (Suited shape p n candidates) p n r → lightestRow shape p n candidates ≡ found r
+    unfolding lightestRow
+    shape-only r d =
+        let (m, g) = of-suited r (d .has) in
+        unique-sorted (isGood shape p n) (keyOf p n) (sorted-rows (2 ^ degree p) candidates n) r
+        (record {
+          isRow = m;
+          isGood = g;
+          isFirst = λ s i t q.
+              let b = suited-of s i t in
+              before-key p n r s (suited-nonzero r (d .has)) (suited-nonzero s b) (d .first s b q);
+        })
 
 pub order-of-candidates : (shape : Shape) (p n : ℕ) (candidates candidates′ : List ℕ) → ((a : ℕ) → List·Memᴰ a candidates ↔ List·Memᴰ a candidates′)
     → lightestRow shape p n candidates ≡ lightestRow shape p n candidates′
@@ -125,14 +147,15 @@ module _ (p n : ℕ) (candidates : List ℕ) where
   )
 
   module _ (fits : (a : ℕ) → List·Memᴰ a candidates → a < 2 ^ degree p) where
-    pub demand-three : (r : List ℕ) → lightestRow hadamardShape p n candidates ≡ found r → Demanded p n candidates r
-    demand-three r e = same-first _ _ suited-both p n r (shape-row hadamardShape p n candidates fits r e)
-
     pub demand-three-none : (lightestRow hadamardShape p n candidates ≡ nothing) ↔ ((r : List ℕ) → Both p n candidates r → ⊥)
     demand-three-none =
         let none = shape-none hadamardShape p n candidates fits in
         (λ e r b. none .0 e r (suited-both r .1 b), λ h. none .1 (λ r s. h r (suited-both r .0 s)))
 
-    pub demand-three-only : (r : List ℕ) → Demanded p n candidates r → lightestRow hadamardShape p n candidates ≡ found r
-    demand-three-only r d =
-        shape-only hadamardShape p n candidates fits r (same-first _ _ (λ s. (suited-both s .1, suited-both s .0)) p n r d)
+    module _ (nonzero : (a : ℕ) → List·Memᴰ a candidates → a ≢ 0) where
+      pub demand-three : (r : List ℕ) → lightestRow hadamardShape p n candidates ≡ found r → Demanded p n candidates r
+      demand-three r e = same-first _ _ suited-both p n r (shape-row hadamardShape p n candidates fits nonzero r e)
+
+      pub demand-three-only : (r : List ℕ) → Demanded p n candidates r → lightestRow hadamardShape p n candidates ≡ found r
+      demand-three-only r d =
+          shape-only hadamardShape p n candidates fits nonzero r (same-first _ _ (λ s. (suited-both s .1, suited-both s .0)) p n r d)

@@ -1,13 +1,14 @@
--- `answer::row::put_row` meets its contract: the counts follow from the sum of the element counts. Assumes nothing.
-use mathlib.Core.Path.{sym, ap, _∙_}
-use Prim.Native.Nat.{ℕ, _+_, _-_, _*_, _≤_}
+-- `answer::row::put_row` meets its contract: the counts follow from the sum of the element counts and the additions. Assumes nothing.
+use mathlib.Core.Path.{_≡_, sym, ap, _∙_}
+use Prim.Native.Nat.{ℕ, _+_, _*_, _≤_}
 use native.Mathlib.Nat.{mul-le-mul}
 use native.Mathlib.Omega.{arith}
 use mathlib.Core.List.{List, [], _∷_}
 use lib.ListN.{getD, take}
-use lib.Seq.{length-take-le}
-use Rattle.field.proofs.Degrees.{polynomial}
+use lib.Seq.{length-take-le, getD-take}
 use Rattle.refusal.specs.Refusals.{answer}
+use Rattle.matrix.specs.Counts.{additionCount}
+use Rattle.matrix.proofs.Tallies.{additionCount-le, additionCount-cong}
 use Rattle.search.specs.Answer.{sumOf}
 use Rattle.answer.proofs.Replies.{replied-as}
 use Rattle.answer.proofs.Found.{row-lines, sum-le, six-row, six-take}
@@ -18,40 +19,29 @@ use Rattle.answer.proofs.row.put_row.Tie as tie
 cast-order : tie.Need-cast-order
 cast-order c = search needs
 
-sub-count : tie.Need-sub-count
-sub-count c = search needs
+addition-count-requires : tie.Need-addition-count-requires
+addition-count-requires c κs = search needs
 
-degree-requires : tie.Need-degree-requires
-degree-requires c κs = search needs
-
-cast-count : tie.Need-cast-count
-cast-count c = search needs
-
--- the sum and the counts are small
-sum-small : (c : tie.After-degree) → c .before .before .args .sum ≤ 448
+-- the sum and the additions are small
+sum-small : (c : tie.After-addition-count) → c .before .before .args .sum ≤ 448
 unfolding sumOf
 sum-small c =
     let start = c .before .before in
     sum-le (start .args .p) (start .args .n) (start .args .sum) (λ j. getD (take (start .args .n) (start .args .row)) j 0) (start .pre .0) (start .pre .2) (start .pre .3)
 
-products : (c : tie.After-degree) → (c .before .before .args .n - 1) * c .degree .result ≤ 56
-products c =
+additions : (c : tie.After-addition-count) → c .addition-count .result ≤ 56
+additions c =
     let start = c .before .before in
-    let few : start .args .n - 1 ≤ 7 = omega arith in
-    let low : c .degree .result ≤ 8 = omega (arith, c .degree .ensures, polynomial (start .args .p) (start .pre .0) .most) in
-    mul-le-mul few low
+    omega (arith, c .addition-count .ensures, additionCount-le (start .args .p) (start .args .n) (λ j. getD (start .args .row) j 0) (start .pre .0) (start .pre .2))
 
-mul-count : tie.Need-mul-count
-mul-count c = record { fits = omega (arith, products c) }
-
-most : (c : tie.After-degree) → c .before .before .args .n * (c .before .before .args .sum + (c .before .before .args .n - 1) * c .degree .result) ≤ 4032
+most : (c : tie.After-addition-count) → c .before .before .args .n * (c .before .before .args .sum + c .addition-count .result) ≤ 4032
 most c =
     let start = c .before .before in
-    let low : start .args .sum + (start .args .n - 1) * c .degree .result ≤ 504 = omega (arith, sum-small c, products c) in
+    let low : start .args .sum + c .addition-count .result ≤ 504 = omega (arith, sum-small c, additions c) in
     mul-le-mul (start .pre .2) low
 
 add-count : tie.Need-add-count
-add-count c = record { fits = omega (arith, sum-small c, products c) }
+add-count c = record { fits = omega (arith, sum-small c, additions c) }
 
 widened-requires : tie.Need-widened-requires
 widened-requires c κs = search needs
@@ -75,7 +65,7 @@ put-answers-requires c κs =
     let n = start .args .n in (
       search needs,
       omega (arith, slice-aggregate-put-answers-2 c),
-      six-row _ _ _ (sum-small told) (omega (arith, sum-small told, products told)) (most told),
+      six-row _ _ _ (sum-small told) (omega (arith, sum-small told, additions told)) (most told),
       six-take n _ (c .before .before .before .widened .ensures .1),
     )
 
@@ -85,14 +75,17 @@ same-length c = search needs
 returns : tie.Need-returns
 returns c =
     let found = c .before .before .before .before .before .before in
-    let start = found .before .before .before in
+    let counted = found .before in
+    let start = counted .before .before in
     let a = start .args in
-    let d = found .before .degree in
-    let count : ℕ = a .sum + (a .n - 1) * d .result in
+    let count : ℕ = a .sum + counted .addition-count .result in
+    let entries : additionCount (a .p) (a .n) (λ j. getD (a .row) j 0) ≡ additionCount (a .p) (a .n) (λ j. getD (take (a .n) (a .row)) j 0) =
+    additionCount-cong (a .p) (a .n) _ _ (λ j l. sym (getD-take (a .n) (a .row) j 0 l)) in
     replied-as
     (ap (λ (l : List ℕ). answer 0 ((0 ∷ a .sum ∷ count ∷ a .n * count ∷ []) ∷ take (a .n) l ∷ [])) (found .widened .ensures .0)
     ∙ ap (λ (l : List (List ℕ)). answer 0 l)
-    (row-lines (a .p) (a .n) (a .sum) count (take (a .n) (a .row)) (start .pre .3) (ap (λ (x : ℕ). a .sum + (a .n - 1) * x) (d .ensures))))
+    (row-lines (a .p) (a .n) (a .sum) count (take (a .n) (a .row)) (start .pre .3)
+    (ap (λ (x : ℕ). a .sum + x) (counted .addition-count .ensures ∙ entries))))
     (c .before .before .put-answers .ensures)
 
 pub put-row-spec : {M : Type 1} → statement M
@@ -100,10 +93,7 @@ put-row-spec =
     tie.close
     (tie.spec
     cast-order
-    sub-count
-    degree-requires
-    cast-count
-    mul-count
+    addition-count-requires
     add-count
     widened-requires
     mul-t9
