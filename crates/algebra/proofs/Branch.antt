@@ -35,7 +35,8 @@ module _ (K : Operations) (n : ℕ) (f : ℕ → ℕ → K .Element) where
   Attains : List (List (K .Element)) → ℕ → Type 0
   Attains xs b = (x : List (K .Element)) × List·Memᴰ x xs × (0 < weight K x) × (b ≡ activity K n f x)
 
-  least-le : (xs : List (List (K .Element))) (x : List (K .Element)) → List·Memᴰ x xs → 0 < weight K x
+  -- no nonzero one of them has a smaller activity than the least
+  pub least-le : (xs : List (List (K .Element))) (x : List (K .Element)) → List·Memᴰ x xs → 0 < weight K x
       → leastActivity K n f xs ≤ activity K n f x
   unfolding leastActivity
   least-le [] x m h = absurd (List·Memᴰ·not-nil m)

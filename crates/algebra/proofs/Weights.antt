@@ -80,6 +80,12 @@ marked-other : (t : ℕ → ℕ) (a b : ℕ) → a ≢ b → t b ≡ 0 → marke
 unfolding marked
 marked-other t a b d z = omega (arith, delta-other Naturals b a 1 (λ e. d (sym e)))
 
+-- a 0 among n numbers of at most 1: their sum is below n
+pub sum-gap : (n : ℕ) (t : ℕ → ℕ) → ((i : ℕ) → t i ≤ 1) → (a : ℕ) → a < n → t a ≡ 0 → sum Naturals n t < n
+sum-gap n t h a l z =
+    let most : sum Naturals n (marked t a) ≤ sum Naturals n (λ i. 1) = sum-le n (marked t a) (λ i. 1) (λ i m. marked-le t a h z i) in
+    omega (arith, sum-marked n t a l, sum-ones n)
+
 -- ---- the weight
 
 -- a word counts at most once
@@ -152,10 +158,7 @@ module _ (K : Operations) (L : Field K) where
 
     -- a zero word at one place
     pub weight-null : (a : ℕ) → a < n → getD x a (K .null) ≡ K .null → weight K x < n
-    weight-null a l z =
-        let most : sum Naturals n (marked marks a) ≤ sum Naturals n (λ i. 1) =
-        sum-le n (marked marks a) (λ i. 1) (λ i m. marked-le marks a marks-le (marks-null a z) i) in
-        omega (arith, weight-marks, sum-marked n marks a l, sum-ones n)
+    weight-null a l z = rw weight-marks (sum-gap n marks marks-le a l (marks-null a z))
 
     -- zero words at two places
     pub weight-nulls : (a b : ℕ) → a < n → b < n → a ≢ b → getD x a (K .null) ≡ K .null → getD x b (K .null) ≡ K .null

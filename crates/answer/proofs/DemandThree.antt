@@ -35,8 +35,8 @@ module _ (text : List ℕ) (w : WellFormedSearch text) where
   -- only one row is demanded
   one-row : (r s : List ℕ) → DemandedBy text r → DemandedBy text s → r ≡ s
   one-row r s d e =
-      let q = demand-three-only _ _ _ (passed text w .fits) (passed text w .nonzero) r d in
-      let q′ = demand-three-only _ _ _ (passed text w .fits) (passed text w .nonzero) s e in
+      let q = demand-three-only _ _ _ (passed text w .fits) r d in
+      let q′ = demand-three-only _ _ _ (passed text w .fits) s e in
       cc
 
   -- so its text does not both fit a space and exceed it
@@ -57,7 +57,7 @@ module _ (text : List ℕ) (w : WellFormedSearch text) where
           rw (← after-taken {A = List (List ℕ)} [] [] NoRowReason true [] refl) (none-due (demand-three-none _ _ _ (passed text w .fits) .0 e))
       go (found r) e =
           rw (← after-left {A = List (List ℕ)} [] (rows r) 9 false [] refl, ← after-empty {A = List (List ℕ)} [] (rows r))
-          (row-due r (demand-three _ _ _ (passed text w .fits) (passed text w .nonzero) r e))
+          (row-due r (demand-three _ _ _ (passed text w .fits) r e))
 
 -- ---- what is answered
 

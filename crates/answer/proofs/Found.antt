@@ -24,9 +24,9 @@ use Rattle.matrix.proofs.Tallies.{elementCount-le}
 use Rattle.search.specs.Lightest.{Best, nothing, found}
 use Rattle.search.specs.Shape.{isGood, hadamardShape}
 use Rattle.search.specs.Answer.{sumOf, lightestRow, isWrongSearchOrder, isWrongSearchCount, someTooLarge, someBad, isNone, searchFaults, RowFound, noRow, rowFound, searchAnswer, keyOf, saysOutcome}
-use Rattle.search.proofs.Demands.{NoZero, over-nonzero}
+use Rattle.search.proofs.Demands.{NoZero}
 use Rattle.search.proofs.LetterCounts.{member-nonzero}
-use Rattle.search.proofs.Rows.{mem-rows, sorted-rows}
+use Rattle.search.proofs.Rows.{mem-rows, sorted-rows, getD-mem}
 use Rattle.search.proofs.Lightest.{row-sorted}
 use Rattle.search.proofs.Refusals.{order-of, count-four, count-eight}
 use Rattle.text.specs.Text.{SixDigits}
@@ -145,7 +145,7 @@ search-accepted p n values e =
       lightest = there .1;
       entries = row .0;
       small = small-entries 255 (there .0) (λ a m. let l = row .1 a m .1 in omega (arith, l, elements-most p modulus));
-      nonzero = over-nonzero n values (there .0) (member-nonzero values bad) (row .0) (λ a m. row .1 a m .0);
+      nonzero = λ j l. member-nonzero values bad _ (row .1 _ (getD-mem (there .0) j 0 (rw (row .0) l)) .0);
     }
 
 -- ---- what is due, from what the search says

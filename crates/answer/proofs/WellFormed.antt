@@ -1,7 +1,6 @@
 -- A well-formed search: none of the faults 1 to 8 is there, so its numbers have passed every test (`passed`), and only 9 is left
 -- (`only-nine`). Assumes nothing.
 use mathlib.Core.Path.{_≡_, refl, sym, _∙_}
-use mathlib.Core.Logic.{_≢_}
 use mathlib.Core.Bool.{Bool, false, not}
 use mathlib.Core.List.{List, [], _∷_, List·Memᴰ, List·Memᴰ·head, List·Memᴰ·tail}
 use Prim.Native.Nat.{ℕ, _^_, _≤_, _<_}
@@ -16,7 +15,7 @@ use Rattle.search.specs.Lightest.{Best}
 use Rattle.search.specs.Shape.{hadamardShape}
 use Rattle.search.specs.Answer.{isWrongSearchOrder, isWrongSearchCount, someTooLarge, someBad, isNone, lightestRow, searchFaults}
 use Rattle.search.specs.Steps.Hadamard.{SearchOrder}
-use Rattle.search.proofs.LetterCounts.{member-fits, member-nonzero}
+use Rattle.search.proofs.LetterCounts.{member-fits}
 use Rattle.search.proofs.Refusals.{order-of}
 use Rattle.text.specs.Reading.{inForm, kindOf, polynomialOf, orderOf, valuesOf}
 use Rattle.answer.specs.Due.{bestLines, search, requestIn, faultsOf, due}
@@ -33,12 +32,11 @@ search-faults : (text : List ℕ) → kindOf text ≡ 1
 unfolding faultsOf requestIn search
 search-faults text e = rw (kind-is-search text e) refl
 
--- a polynomial with a field, an order of a search, and candidates that are nonzero elements
+-- a polynomial with a field, an order of a search, and candidates that are elements
 pub record Passed (p n : ℕ) (values : List ℕ) : Type 0 where
   pub modulus : Modulus p
   pub order : SearchOrder n
   pub fits : (a : ℕ) → List·Memᴰ a values → a < 2 ^ degree p
-  pub nonzero : (a : ℕ) → List·Memᴰ a values → a ≢ 0
 
 module _ (text : List ℕ) (w : WellFormedSearch text) where
   abbrev p : ℕ
@@ -102,5 +100,4 @@ module _ (text : List ℕ) (w : WellFormedSearch text) where
         modulus = number-modulus p (first-left 3 (isOutside p) _ not-outside ∙ first-left 4 (not (isIrreducible p)) _ not-reducible ∙ first-empty);
         order = order-of n right-order;
         fits = λ a m. not-too-large p a (member-fits p v not-large a m);
-        nonzero = member-nonzero v not-bad;
       }

@@ -2,19 +2,21 @@
 -- number order plus one, and every other row over these elements with both properties has a larger XOR count, or the same count
 -- and a later place. `demand-three-none`: nothing is answered exactly if no row over these elements has both properties.
 -- `demand-three-only`: no other row is demanded. `order-of-candidates`: the order of the brief's elements does not matter.
--- They are the theorems `shape-row`, `shape-none`, `shape-only` of any shape, at Hadamard matrices. What compares counts takes the brief's
--- elements to be nonzero, as document 01 has them: with a 0 in a row the sums of element counts would not compare as the counts do.
--- Assumes nothing.
-use mathlib.Core.Path.{_≡_, refl, sym, _∙_}
+-- They are the theorems `shape-row`, `shape-none`, `shape-only` of any shape, at Hadamard matrices. What compares counts takes a shape by which
+-- every entry of the row stands in its matrix: then no entry is 0, and rows compare by the sums of their element counts. Assumes nothing.
+use mathlib.Core.Path.{_≡_, refl, sym, ap, _∙_}
 use mathlib.Core.Logic.{_≢_, _↔_, _⊎_, inl, inr, ⊎-elim}
 use mathlib.Core.Bool.{Bool, true, false, not, _||_, true≢false, false≢true}
 use mathlib.Core.List.{List, List·Memᴰ}
-use Prim.Native.Nat.{ℕ, suc, _+_, _-_, _*_, _^_, _<_}
+use Prim.Native.Nat.{ℕ, suc, _+_, _-_, _*_, _^_, _≤_, _<_}
 use native.Mathlib.Omega.{arith}
 use borrow.Author.Tests.{eqb-true, eq-eqb}
+use lib.Bits.{xor-zero-r}
 use lib.ListN.{length, getD}
+use lib.Seq.{ext-getD}
 use Rattle.algebra.specs.Matrix.{hadamard, branchNumber, isMds, isInvolution}
 use Rattle.algebra.proofs.Involution.{and-left, and-right}
+use Rattle.algebra.proofs.Sums.{le-or-lt}
 use Rattle.field.specs.Polynomial.{degree}
 use Rattle.matrix.specs.Numbers.{numbers, elements}
 use Rattle.matrix.proofs.Tallies.{full-line}
@@ -24,6 +26,7 @@ use Rattle.search.specs.Answer.{keyOf, lightestRow}
 use Rattle.search.specs.Demands.{countOfRow, Before, FirstOf, Both, Demanded}
 use Rattle.search.proofs.Rows.{mem-rows, sorted-rows, getD-mem, not-passed}
 use Rattle.search.proofs.Lightest.{none-sorted, row-sorted, unique-sorted, same-answer}
+use Rattle.search.proofs.ZeroEntries.{zero-entry-light}
 
 -- a row over the brief's elements with what a shape asks for: its matrix of that shape has branch number order plus one, and is an
 -- involution where it has to be
@@ -38,11 +41,6 @@ pub record Suited (shape : Shape) (p n : ℕ) (candidates row : List ℕ) : Type
 -- none of the first n entries is 0
 abbrev pub NoZero : ℕ → List ℕ → Type 0
 NoZero n row = (j : ℕ) → j < n → getD row j 0 ≢ 0
-
--- nor is one of a row over candidates without 0
-pub over-nonzero : (n : ℕ) (candidates row : List ℕ) → ((a : ℕ) → List·Memᴰ a candidates → a ≢ 0) → length row ≡ n
-    → ((a : ℕ) → List·Memᴰ a row → List·Memᴰ a candidates) → NoZero n row
-over-nonzero n candidates row nonzero e over j l = nonzero _ (over _ (getD-mem row j 0 (rw e l)))
 
 -- the count of a row without zeros is the key and a number that only the order and the polynomial decide
 pub count-key : (p n : ℕ) (row : List ℕ) → NoZero n row → countOfRow p n row ≡ keyOf p n row + (n - 1) * degree p
@@ -61,6 +59,10 @@ before-key p n r s x y h =
     (λ q. inr (omega (arith, q .0, count-key p n r x, count-key p n s y), q .1)) h
 
 -- ---- any shape
+
+-- every place of a row of n entries stands somewhere in its matrix
+abbrev pub EveryPlace : Shape → ℕ → Type 0
+EveryPlace shape n = (a : ℕ) → a < n → (i : ℕ) × (j : ℕ) × (i < n) × (j < n) × (shape .place n i j ≡ a)
 
 -- a test that is made only where it is asked for
 where-asked : (asked x : Bool) → (not asked || x) ≡ true → asked ≡ true → x ≡ true
@@ -100,9 +102,27 @@ module _ (shape : Shape) (p n : ℕ) (candidates : List ℕ) (fits : (a : ℕ) �
         λ h. none .1 (λ r m. not-passed (isGood shape p n r) (λ g. h r (suited-of r m g))),
       )
 
-  module _ (nonzero : (a : ℕ) → List·Memᴰ a candidates → a ≢ 0) where
-    suited-nonzero : (r : List ℕ) → Suited shape p n candidates r → NoZero n r
-    suited-nonzero r b = over-nonzero n candidates r nonzero (b .entries) (b .over)
+  module _ (each : EveryPlace shape n) where
+    -- where 1 is an element, a suited row has no 0
+    suited-nonzero : 1 < 2 ^ degree p → (r : List ℕ) → Suited shape p n candidates r → NoZero n r
+    unfolding rowMatrix
+    suited-nonzero some r b a l z =
+        let (i, j, x, y, e) = each a l in
+        let light = zero-entry-light p n (rowMatrix shape n r) i j x y (ap (λ (k : ℕ). getD r k 0) e ∙ z) some in
+        omega (arith, light, b .branch)
+
+    -- else 0 is the only element, and there is one row
+    one-element : 2 ^ degree p ≤ 1 → (r s : List ℕ) → Suited shape p n candidates r → Suited shape p n candidates s → s ≡ r
+    one-element few r s b c = ext-getD 0 s r (c .entries ∙ sym (b .entries)) (λ k l. zero s c k (rw (c .entries) at l) ∙ sym (zero r b k (rw (c .entries) at l)))
+      where
+        zero : (t : List ℕ) → Suited shape p n candidates t → (k : ℕ) → k < n → getD t k 0 ≡ 0
+        zero t d k l = let below = fits _ (d .over _ (getD-mem t k 0 (rw (d .entries) l))) in omega arith
+
+    -- so of two suited rows neither has a 0
+    apart-nonzero : (r s : List ℕ) → Suited shape p n candidates r → Suited shape p n candidates s → s ≢ r → NoZero n r × NoZero n s
+    apart-nonzero r s b c d =
+        ⊎-elim (λ (few : 2 ^ degree p ≤ 1). absurd (d (one-element few r s b c)))
+        (λ (some : 1 < 2 ^ degree p). (suited-nonzero some r b, suited-nonzero some s c)) (le-or-lt (2 ^ degree p) 1)
 
     pub shape-row : (r : List ℕ) → lightestRow shape p n candidates ≡ found r → FirstOf (Suited shape p n candidates) p n r
     unfolding lightestRow
@@ -111,7 +131,10 @@ module _ (shape : Shape) (p n : ℕ) (candidates : List ℕ) (fits : (a : ℕ) �
         let h = suited-of r (d .isRow) (d .isGood) in
         record {
           has = h;
-          first = λ s b q. let (m, g) = of-suited s b in key-before p n r s (suited-nonzero r h) (suited-nonzero s b) (d .isFirst s m g q);
+          first = λ s b q.
+              let (m, g) = of-suited s b in
+              let (x, y) = apart-nonzero r s h b q in
+              key-before p n r s x y (d .isFirst s m g q);
         }
 
     pub shape-only : (r : List ℕ) → FirstOf (Suited shape p n candidates) p n r → lightestRow shape p n candidates ≡ found r
@@ -124,7 +147,8 @@ module _ (shape : Shape) (p n : ℕ) (candidates : List ℕ) (fits : (a : ℕ) �
           isGood = g;
           isFirst = λ s i t q.
               let b = suited-of s i t in
-              before-key p n r s (suited-nonzero r (d .has)) (suited-nonzero s b) (d .first s b q);
+              let (x, y) = apart-nonzero r s (d .has) b q in
+              before-key p n r s x y (d .first s b q);
         })
 
 pub order-of-candidates : (shape : Shape) (p n : ℕ) (candidates candidates′ : List ℕ) → ((a : ℕ) → List·Memᴰ a candidates ↔ List·Memᴰ a candidates′)
@@ -133,6 +157,11 @@ unfolding lightestRow
 order-of-candidates shape p n candidates candidates′ same = same-answer (isGood shape p n) (keyOf p n) (2 ^ degree p) candidates candidates′ n same
 
 -- ---- Hadamard matrices, in the customer's words
+
+-- the first column of a Hadamard matrix has the row's entries
+first-column : (n : ℕ) → EveryPlace hadamardShape n
+unfolding hadamardShape
+first-column n a l = (a, 0, l, omega arith, xor-zero-r a)
 
 -- rows that have the same have the same first
 same-first : (P Q : List ℕ → Type 0) → ((s : List ℕ) → P s ↔ Q s) → (p n : ℕ) (r : List ℕ) → FirstOf P p n r → FirstOf Q p n r
@@ -147,15 +176,14 @@ module _ (p n : ℕ) (candidates : List ℕ) where
   )
 
   module _ (fits : (a : ℕ) → List·Memᴰ a candidates → a < 2 ^ degree p) where
+    pub demand-three : (r : List ℕ) → lightestRow hadamardShape p n candidates ≡ found r → Demanded p n candidates r
+    demand-three r e = same-first _ _ suited-both p n r (shape-row hadamardShape p n candidates fits (first-column n) r e)
+
     pub demand-three-none : (lightestRow hadamardShape p n candidates ≡ nothing) ↔ ((r : List ℕ) → Both p n candidates r → ⊥)
     demand-three-none =
         let none = shape-none hadamardShape p n candidates fits in
         (λ e r b. none .0 e r (suited-both r .1 b), λ h. none .1 (λ r s. h r (suited-both r .0 s)))
 
-    module _ (nonzero : (a : ℕ) → List·Memᴰ a candidates → a ≢ 0) where
-      pub demand-three : (r : List ℕ) → lightestRow hadamardShape p n candidates ≡ found r → Demanded p n candidates r
-      demand-three r e = same-first _ _ suited-both p n r (shape-row hadamardShape p n candidates fits nonzero r e)
-
-      pub demand-three-only : (r : List ℕ) → Demanded p n candidates r → lightestRow hadamardShape p n candidates ≡ found r
-      demand-three-only r d =
-          shape-only hadamardShape p n candidates fits nonzero r (same-first _ _ (λ s. (suited-both s .1, suited-both s .0)) p n r d)
+    pub demand-three-only : (r : List ℕ) → Demanded p n candidates r → lightestRow hadamardShape p n candidates ≡ found r
+    demand-three-only r d =
+        shape-only hadamardShape p n candidates fits (first-column n) r (same-first _ _ (λ s. (suited-both s .1, suited-both s .0)) p n r d)
