@@ -520,4 +520,6 @@ class Bindings(Place):
 
 
 if __name__ == "__main__":
+    # A shell without job control has commands in the background ignore an interrupt, and what they start too.
+    signal.signal(signal.SIGINT, signal.default_int_handler)
     unittest.main()
