@@ -1,21 +1,22 @@
--- Hadamard matrices of order 2 ^ k: when they are involutions, and two cases in which they are not MDS.
+-- Hadamard matrices of order 2 ^ k: when they are involutions, and that a row with an entry 0 is not MDS.
 -- Assumes nothing.
 use mathlib.Core.Path.{_≡_, refl, sym, ap, ap₂, _∙_}
 use mathlib.Core.Bool.{true, false}
 use mathlib.Core.List.{List, List·Memᴰ}
 use mathlib.Core.Logic.{_≢_}
-use Prim.Native.Nat.{ℕ, _^_, _<_}
+use Prim.Native.Nat.{ℕ, suc, _^_, _≤_, _<_}
 use native.Mathlib.Decide.{ℕ-discrete}
 use native.Mathlib.Omega.{arith}
+use borrow.Author.Tests.{ne-eqb}
 use lib.Bits.{bitXor, xor-comm, xor-zero-r, xor-lt}
 use lib.ListN.{getD}
 use lib.Pow.{pow-pos}
 use Rattle.algebra.specs.Operations.{Operations}
 use Rattle.algebra.proofs.FieldLaws.{Field}
-use Rattle.algebra.specs.Matrix.{sum, apply, hadamard, weight, activity, isMds, isInvolution}
+use Rattle.algebra.specs.Matrix.{sum, hadamard, branchNumber, isMds, isInvolution}
 use Rattle.algebra.proofs.Sums.{additive, delta, delta-same, delta-other, sum-cong, sum-permuted, sum-paired, square-sum, square-one}
-use Rattle.algebra.proofs.Weights.{length-apply, unit, length-unit, weight-unit, getD-apply-unit, weight-null}
-use Rattle.algebra.proofs.Branch.{light-not-mds}
+use Rattle.algebra.proofs.Weights.{null-laws}
+use Rattle.algebra.proofs.Branch.{null-entry-light}
 use Rattle.algebra.proofs.Involution.{product, involution-identity, identity-involution}
 use Rattle.algebra.proofs.Xor.{xor-assoc, xor-xor, xor-between, xor-zero, xor-own, xor-moves}
 
@@ -66,14 +67,10 @@ module _ (K : Operations) (L : Field K) (k : ℕ) (row : List (K .Element)) wher
               | no d ↦ square-other i j l m d ∙ sym (delta-other K i j (K .one) d)
             ]
 
-    -- a zero in the row: the first unit input is too light
+    -- a zero in the row stands in the first column
     pub null-not-mds : (a : ℕ) → a < 2 ^ k → getD row a (K .null) ≡ K .null → isMds K elements (2 ^ k) (hadamard K row) ≡ false
-    unfolding activity hadamard
+    unfolding hadamard isMds
     null-not-mds a l z =
-        let n : ℕ = 2 ^ k in
-        let image : List (K .Element) = apply K n (hadamard K row) (unit K n 0) in
-        let light : weight K image < n =
-        weight-null K L n image (length-apply K n (hadamard K row) (unit K n 0)) a l
-        (getD-apply-unit K L n (hadamard K row) a 0 l (pow-pos k) ∙ rw xor-zero-r z) in
-        let one : weight K (unit K n 0) ≡ 1 = weight-unit K L n 0 (pow-pos k) in
-        light-not-mds K L elements complete n (hadamard K row) (unit K n 0) (length-unit K n 0) (omega arith) (omega arith)
+        let light : branchNumber K elements (2 ^ k) (hadamard K row) ≤ 2 ^ k =
+        null-entry-light K (null-laws K L) (2 ^ k) (hadamard K row) a 0 l (pow-pos k) (rw xor-zero-r z) elements (complete (K .null)) (complete (K .one)) in
+        ne-eqb _ (suc (2 ^ k)) (λ e. omega arith)

@@ -19,7 +19,7 @@ use Rattle.algebra.specs.Matrix.{tabulate, sum, apply, hadamard, det, wi
 use Rattle.algebra.proofs.Words.{oneUnless, length-tabulate, getD-tabulate}
 use Rattle.algebra.proofs.Sums.{le-or-lt, additive, Naturals, naturals, delta, delta-same, delta-other, sum-cong, sum-plus, sum-place, sum-delta, sum-permuted}
 use Rattle.algebra.proofs.Sums.{times-null, equal-of-sum, square-plus, square-null}
-use Rattle.algebra.proofs.Weights.{length-apply, getD-apply, sum-le, sum-ones, counts, oneUnless-le, weight-tabulate, weight-sum, weight-zero, weight-one, weight-nulls}
+use Rattle.algebra.proofs.Weights.{length-apply, getD-apply, sum-le, sum-ones, counts, oneUnless-le, weight-tabulate, weight-sum, weight-zero, weight-one, null-laws, weight-nulls}
 use Rattle.algebra.proofs.Laws.{null-plus, null-not}
 use Rattle.algebra.proofs.Branch.{light-not-mds}
 use Rattle.algebra.proofs.Hadamard.{null-not-mds}
@@ -248,7 +248,7 @@ module _ (K : Operations) (L : Field K) (k : ℕ) (row : List (K .Element)) (ele
           (omega (
             arith,
             weight-pair K L (2 ^ k) a d (h d) (h a) la ld,
-            weight-nulls K L (2 ^ k) image (length-apply K (2 ^ k) (hadamard K row) x) 0 (bitXor a c) (pow-pos k) (xor-lt k a c la lc) (λ q. ac (xor-zero a c (sym q))) upper lower,
+            weight-nulls K (null-laws K L) (2 ^ k) image (length-apply K (2 ^ k) (hadamard K row) x) 0 (bitXor a c) (pow-pos k) (xor-lt k a c la lc) (λ q. ac (xor-zero a c (sym q))) upper lower,
           ))
 
   -- equal entries at two places, by their squares

@@ -15,7 +15,7 @@ use Rattle.algebra.proofs.FieldLaws.{Field}
 use Rattle.algebra.specs.Matrix.{tabulate, sum, apply, weight}
 use Rattle.algebra.proofs.Words.{oneUnless}
 use Rattle.algebra.proofs.Words.{length-tabulate, getD-tabulate, tabulate-cong, tabulate-getD}
-use Rattle.algebra.proofs.Sums.{additive, Naturals, naturals, delta, delta-same, delta-other, sum-null, sum-plus, sum-place, sum-delta, sum-first, times-null}
+use Rattle.algebra.proofs.Sums.{Additive, additive, Naturals, naturals, delta, delta-same, delta-other, sum-null, sum-plus, sum-place, sum-delta, sum-first, times-null}
 
 -- ---- the words of a product
 
@@ -80,12 +80,6 @@ marked-other : (t : ℕ → ℕ) (a b : ℕ) → a ≢ b → t b ≡ 0 → marke
 unfolding marked
 marked-other t a b d z = omega (arith, delta-other Naturals b a 1 (λ e. d (sym e)))
 
--- a 0 among n numbers of at most 1: their sum is below n
-pub sum-gap : (n : ℕ) (t : ℕ → ℕ) → ((i : ℕ) → t i ≤ 1) → (a : ℕ) → a < n → t a ≡ 0 → sum Naturals n t < n
-sum-gap n t h a l z =
-    let most : sum Naturals n (marked t a) ≤ sum Naturals n (λ i. 1) = sum-le n (marked t a) (λ i. 1) (λ i m. marked-le t a h z i) in
-    omega (arith, sum-marked n t a l, sum-ones n)
-
 -- ---- the weight
 
 -- a word counts at most once
@@ -116,29 +110,28 @@ module _ (K : Operations) where
   weight-le [] = zero-le
   weight-le (a ∷ x) = omega (arith, oneUnless-le (K .isNull a), weight-le x)
 
-module _ (K : Operations) (L : Field K) where
+-- the laws of 0 and 1 alone, for what is true also over numbers modulo a reducible polynomial
+pub record NullLaws (K : Operations) : Type 0 where
+  pub sums : Additive K
+  pub times-null : (a : K .Element) → K .times a (K .null) ≡ K .null
+  pub null-times : (a : K .Element) → K .times (K .null) a ≡ K .null
+  pub null-is : K .isNull (K .null) ≡ true
+  pub one-not-null : K .isNull (K .one) ≡ false
+
+-- a field has these laws
+pub null-laws : (K : Operations) → Field K → NullLaws K
+null-laws K L =
+    record {
+      sums = additive K L;
+      times-null = times-null K L;
+      null-times = λ a. L .times-comm (K .null) a ∙ times-null K L a;
+      null-is = L .null-is;
+      one-not-null = L .one-not-null;
+    }
+
+module _ (K : Operations) (N : NullLaws K) where
   counts-null : (a : K .Element) → a ≡ K .null → counts K a ≡ 0
-  counts-null a e = rw (e, L .null-is)
-
-  null-counts : (a : K .Element) → counts K a ≡ 0 → a ≡ K .null
-  null-counts a e = decide (K .isNull a) refl
-    where
-      decide : (t : Bool) → K .isNull a ≡ t → a ≡ K .null
-      decide true z = L .is-null a z
-      decide false z = absurd (suc-ne-zero 0 (rw z at e))
-
-  -- weight 0: all words are 0
-  pub weight-zero : (x : List (K .Element)) → weight K x ≡ 0 → (i : ℕ) → getD x i (K .null) ≡ K .null
-  unfolding weight
-  weight-zero [] e i = refl
-  weight-zero (a ∷ x) e zero = null-counts a (omega arith)
-  weight-zero (a ∷ x) e (suc i) = weight-zero x (omega arith) i
-
-  -- all words are 0: weight 0
-  pub zero-weight : (n : ℕ) (x : List (K .Element)) → length x ≡ n → ((i : ℕ) → i < n → getD x i (K .null) ≡ K .null)
-      → weight K x ≡ 0
-  zero-weight n x e h =
-      weight-sum K n x e ∙ sum-null Naturals naturals n (λ i. counts K (getD x i (K .null))) (λ i l. counts-null (getD x i (K .null)) (h i l))
+  counts-null a e = rw (e, N .null-is)
 
   module _ (n : ℕ) (x : List (K .Element)) (long : length x ≡ n) where
     marks : ℕ → ℕ
@@ -158,7 +151,10 @@ module _ (K : Operations) (L : Field K) where
 
     -- a zero word at one place
     pub weight-null : (a : ℕ) → a < n → getD x a (K .null) ≡ K .null → weight K x < n
-    weight-null a l z = rw weight-marks (sum-gap n marks marks-le a l (marks-null a z))
+    weight-null a l z =
+        let most : sum Naturals n (marked marks a) ≤ sum Naturals n (λ i. 1) =
+        sum-le n (marked marks a) (λ i. 1) (λ i m. marked-le marks a marks-le (marks-null a z) i) in
+        omega (arith, weight-marks, sum-marked n marks a l, sum-ones n)
 
     -- zero words at two places
     pub weight-nulls : (a b : ℕ) → a < n → b < n → a ≢ b → getD x a (K .null) ≡ K .null → getD x b (K .null) ≡ K .null
@@ -175,7 +171,28 @@ module _ (K : Operations) (L : Field K) where
   weight-unit n k l =
       weight-tabulate K n (λ i. delta K i k (K .one))
       ∙ sum-place Naturals naturals n (λ i. counts K (delta K i k (K .one))) k l (λ i m e. counts-null (delta K i k (K .one)) (delta-other K i k (K .one) e))
-      ∙ rw (delta-same K k k (K .one) refl, L .one-not-null)
+      ∙ rw (delta-same K k k (K .one) refl, N .one-not-null)
+
+module _ (K : Operations) (L : Field K) where
+  null-counts : (a : K .Element) → counts K a ≡ 0 → a ≡ K .null
+  null-counts a e = decide (K .isNull a) refl
+    where
+      decide : (t : Bool) → K .isNull a ≡ t → a ≡ K .null
+      decide true z = L .is-null a z
+      decide false z = absurd (suc-ne-zero 0 (rw z at e))
+
+  -- weight 0: all words are 0
+  pub weight-zero : (x : List (K .Element)) → weight K x ≡ 0 → (i : ℕ) → getD x i (K .null) ≡ K .null
+  unfolding weight
+  weight-zero [] e i = refl
+  weight-zero (a ∷ x) e zero = null-counts a (omega arith)
+  weight-zero (a ∷ x) e (suc i) = weight-zero x (omega arith) i
+
+  -- all words are 0: weight 0
+  pub zero-weight : (n : ℕ) (x : List (K .Element)) → length x ≡ n → ((i : ℕ) → i < n → getD x i (K .null) ≡ K .null)
+      → weight K x ≡ 0
+  zero-weight n x e h =
+      weight-sum K n x e ∙ sum-null Naturals naturals n (λ i. counts K (getD x i (K .null))) (λ i l. counts-null K (null-laws K L) (getD x i (K .null)) (h i l))
 
   -- the product with a unit input is a column
   pub apply-unit : (n : ℕ) (f : ℕ → ℕ → K .Element) (k : ℕ) → k < n → apply K n f (unit K n k) ≡ tabulate n (λ i. f i k)
@@ -185,11 +202,6 @@ module _ (K : Operations) (L : Field K) where
       (λ i m. sum-place K (additive K L) n (λ j. K .times (f i j) (getD (unit K n k) j (K .null))) k l
       (λ j h e. rw (getD-unit K n k j h, delta-other K j k (K .one) e) (times-null K L (f i j)))
       ∙ rw (getD-unit K n k k l, delta-same K k k (K .one) refl) (L .times-one (f i k)))
-
-  -- so its word at place i is an entry
-  pub getD-apply-unit : (n : ℕ) (f : ℕ → ℕ → K .Element) (i k : ℕ) → i < n → k < n
-      → getD (apply K n f (unit K n k)) i (K .null) ≡ f i k
-  getD-apply-unit n f i k l m = ap (λ x. getD x i (K .null)) (apply-unit n f k m) ∙ getD-tabulate n (λ i. f i k) i (K .null) l
 
   -- a word that is 1: not weight 0
   pub weight-one : (x : List (K .Element)) (i : ℕ) → getD x i (K .null) ≡ K .one → 0 < weight K x

@@ -45,6 +45,20 @@ module _ {A : Type 0} where
   pub getD-past : (n : ℕ) (f : ℕ → A) (i : ℕ) (d : A) → n ≤ i → getD (tabulate n f) i d ≡ d
   getD-past n f i d h = List·getD-eq-default (tabulate n f) d (rw length-tabulate h)
 
+  -- each of its values is a member
+  pub tabulate-mem : (n : ℕ) (f : ℕ → A) (i : ℕ) → i < n → List·Memᴰ (f i) (tabulate n f)
+  unfolding tabulate
+  tabulate-mem zero f i h = absurd (not-suc-le-zero h)
+  tabulate-mem (suc n) f zero h = List·Memᴰ·head refl
+  tabulate-mem (suc n) f (suc i) h = List·Memᴰ·tail (tabulate-mem n (λ i. f (suc i)) i (le-of-suc-le-suc h))
+
+  -- and each member one of its values
+  pub mem-tabulate : (n : ℕ) (f : ℕ → A) (y : A) → List·Memᴰ y (tabulate n f) → (i : ℕ) × (i < n) × (y ≡ f i)
+  unfolding tabulate
+  mem-tabulate zero f y m = absurd (List·Memᴰ·not-nil m)
+  mem-tabulate (suc n) f y m =
+      ⊎-elim (λ e. (0, omega arith, e)) (λ k. let (i, h, e) = mem-tabulate n (λ i. f (suc i)) y k in (suc i, omega arith, e)) (List·Memᴰ·cases-cons m)
+
   -- only the values below n count
   pub tabulate-cong : (n : ℕ) (f g : ℕ → A) → ((i : ℕ) → i < n → f i ≡ g i) → tabulate n f ≡ tabulate n g
   unfolding tabulate

@@ -8,12 +8,11 @@ use mathlib.Core.List.{List, [], _∷_, List·Memᴰ}
 use Prim.Native.Nat.{ℕ, zero, suc, _+_, _*_, _<_}
 use native.Mathlib.Omega.{arith}
 use lib.Dec.{eqb}
-use lib.ListN.{length, getD}
+use lib.ListN.{getD}
 use Rattle.algebra.specs.Matrix.{branchNumber, isMds, isInvolution}
 use Rattle.refusal.specs.Refusals.{fault, firstNumber, Answer, answer, unlessRefused, answerAfter}
 use Rattle.refusal.proofs.Faults.{first-passed, after-number-is}
 use Rattle.matrix.specs.Numbers.{numbers, elements}
-use Rattle.matrix.specs.Counts.{matrixCount}
 use Rattle.matrix.specs.Answers.{yesNo, checkOf}
 use Rattle.matrix.proofs.CountsBefore.{rowCountBefore, matrixCountBefore, line-as-before, matrix-as-before}
 use Rattle.search.specs.Lightest.{Best, nothing, found}
@@ -24,7 +23,7 @@ use Rattle.search.proofs.Rows.{getD-mem}
 use Rattle.text.specs.Reading.{inForm, kindOf, valuesOf}
 use Rattle.answer.specs.Due.{Request, Kind, rowLines, search, entriesOf, checkLines, check, survey, kinds, kindAmong, kindIn, requestIn, faultsOf, due}
 use Rattle.answer.specs.Answered.{textOf}
-use Rattle.answer.proofs.EveryKind.{unknown, kind-number}
+use Rattle.answer.proofs.EveryKind.{kind-number}
 use Rattle.answer.proofs.Found.{search-accepted}
 use Rattle.answer.proofs.Values.{place-below}
 use Rattle.answer.proofs.Acceptance.{check-accepted}

@@ -3,9 +3,9 @@
 use mathlib.Core.Path.{_≡_, refl, sym, ap, _∙_}
 use mathlib.Core.Bool.{Bool, false}
 use mathlib.Core.HLevel.{Σ-prop-path}
-use mathlib.Core.List.{List, [], _∷_, map, List·Memᴰ, List·Memᴰ·head, List·Memᴰ·tail, Memᴰ·cast}
-use Prim.Native.Nat.{ℕ, zero, suc, _^_, _%_, _<_, suc-le-suc}
-use native.Mathlib.Nat.{suc-ne-zero, mod-lt, mod-eq-of-lt, not-suc-le-zero, le-of-suc-le-suc, zero-lt-suc, lt-of-lt-of-le, eq-zero-or-pos}
+use mathlib.Core.List.{List, [], _∷_, map, List·Memᴰ, Memᴰ·cast}
+use Prim.Native.Nat.{ℕ, suc, _^_, _%_, _<_, suc-le-suc}
+use native.Mathlib.Nat.{suc-ne-zero, mod-lt, mod-eq-of-lt, zero-lt-suc, lt-of-lt-of-le, eq-zero-or-pos}
 use native.Mathlib.Bridge.{le-prop}
 use native.Mathlib.Omega.{arith}
 use mathlib.Core.Logic.{⊎-elim}
@@ -16,7 +16,7 @@ use borrow.Author.Tests.{eqb-true, eqb-false, eq-eqb}
 use Rattle.algebra.specs.Operations.{Operations}
 use Rattle.algebra.proofs.FieldLaws.{Field}
 use Rattle.algebra.specs.Matrix.{tabulate, upTo, apply, weight, det, branchNumber, isMds, isInvolution, hasKernel}
-use Rattle.algebra.proofs.Words.{tabulate-cong}
+use Rattle.algebra.proofs.Words.{tabulate-mem, tabulate-cong}
 use Rattle.algebra.proofs.Bridge.{Homomorphism, map-tabulate, weight-bridge, apply-bridge, det-bridge, branch-bridge, mds-bridge, hasKernel-bridge, involution-bridge}
 use Rattle.field.specs.Polynomial.{_⊕_, degree, product, Modulus}
 use Rattle.field.proofs.Sum.{sum-assoc, sum-comm, sum-zero-r, sum-self, sum-lt}
@@ -50,13 +50,6 @@ lift p a = (a % 2 ^ degree p, mod-lt a (pow-pos (degree p)))
 pub lift-number : (p a : ℕ) → a < 2 ^ degree p → lift p a .0 ≡ a
 lift-number p a l = mod-eq-of-lt l
 
--- each of the values stands in the list of them
-mem-tabulate : {A : Type 0} (n : ℕ) (f : ℕ → A) (i : ℕ) → i < n → List·Memᴰ (f i) (tabulate n f)
-unfolding tabulate
-mem-tabulate zero f i l = absurd (not-suc-le-zero l)
-mem-tabulate (suc n) f zero l = List·Memᴰ·head refl
-mem-tabulate (suc n) f (suc i) l = List·Memᴰ·tail (mem-tabulate n (λ i. f (suc i)) i (le-of-suc-le-suc l))
-
 -- all elements
 unfoldable pub residueList : (p : ℕ) → List (Residue p)
 residueList p = tabulate (2 ^ degree p) (lift p)
@@ -65,7 +58,7 @@ residueList p = tabulate (2 ^ degree p) (lift p)
 pub residues-complete : (p : ℕ) (a : Residue p) → List·Memᴰ a (residueList p)
 unfolding residueList
 residues-complete p a =
-    Memᴰ·cast (same-number p a (lift p (a .0)) (sym (lift-number p (a .0) (a .1)))) (mem-tabulate (2 ^ degree p) (lift p) (a .0) (a .1))
+    Memᴰ·cast (same-number p a (lift p (a .0)) (sym (lift-number p (a .0) (a .1)))) (tabulate-mem (2 ^ degree p) (lift p) (a .0) (a .1))
 
 -- as numbers they are 0 to 2^m - 1
 pub residue-numbers : (p : ℕ) → map (number p) (residueList p) ≡ elements p

@@ -1,5 +1,5 @@
 -- The theorems on matrices, for the numbers below 2^m: determinant and kernel, MDS and square blocks, the branch number by
--- elimination, involutions. A matrix is a function whose entries below the order are elements.
+-- elimination, involutions, entries 0. A matrix is a function whose entries below the order are elements.
 -- Assumes nothing.
 use mathlib.Core.Path.{_≡_, refl, sym, ap, ap₂, _∙_}
 use mathlib.Core.Bool.{Bool, true, false, cond}
@@ -12,24 +12,45 @@ use lib.ListN.{length, getD, length-map}
 use lib.Pow.{pow-pos}
 use Rattle.algebra.specs.Operations.{Operations}
 use Rattle.algebra.proofs.FieldLaws.{Field}
-use Rattle.algebra.specs.Matrix.{words, sum, apply, without, det, weight, activity, leastActivity, branchNumber, isMds, isInvolution, block, chosen, hasKernel}
+use Rattle.algebra.specs.Matrix.{words, upTo, sum, apply, without, det, weight, activity, leastActivity, branchNumber, isMds, isInvolution, block, chosen, hasKernel}
 use Rattle.algebra.specs.Steps.{cleared}
+use Rattle.algebra.proofs.Words.{tabulate-mem}
 use Rattle.algebra.proofs.Sums.{delta}
-use Rattle.algebra.proofs.Weights.{getD-apply}
-use Rattle.algebra.proofs.Branch.{branch-le, branch-le-suc, branch-attained}
+use Rattle.algebra.proofs.Weights.{getD-apply, NullLaws}
+use Rattle.algebra.proofs.Branch.{null-entry-light, branch-le, branch-le-suc, branch-attained}
 use Rattle.algebra.proofs.Involution.{product as times, involution-back, back-involution, involution-identity, identity-involution}
 use Rattle.algebra.proofs.Kernel.{cleared-bridge, hasKernel-free, hasKernel-step, det-kernel-to, det-kernel-from}
 use Rattle.algebra.proofs.Blocks.{kernel-activity, activity-kernel}
 use Rattle.algebra.proofs.Bridge.{sum-bridge}
 use Rattle.field.specs.Polynomial.{degree, product, Modulus}
-use Rattle.field.proofs.Sum.{sum-lt}
+use Rattle.field.proofs.Sum.{sum-assoc, sum-comm, sum-zero-r, sum-lt}
 use Rattle.field.proofs.Degrees.{polynomial}
-use Rattle.field.proofs.Field.{times-lt}
+use Rattle.field.proofs.Field.{times-zero-l, times-zero-r, times-lt}
 use Rattle.matrix.specs.Numbers.{numbers, elements, WordsInField}
 use Rattle.matrix.specs.Steps.Regular.{regularBetween}
 use Rattle.matrix.proofs.Squares as Squares
 use Rattle.matrix.proofs.Residues.{Residue, number, lift, lift-number, same-number, same-numbers, lift-words, residueList as all, residues-complete as complete, one-lt, residues, number-keeps, residues-field}
 use Rattle.matrix.proofs.Residues.{words-below, weight-carried, apply-carried, image-carried, det-carried, branch-carried, mds-carried, involution-carried, regular-carried, kernel-carried}
+
+-- ---- an entry 0, over any polynomial of degree 1 or more
+
+-- the laws of 0 and 1
+number-nulls : (p : ℕ) → NullLaws (numbers p)
+number-nulls p =
+    record {
+      sums = record { plus-assoc = sum-assoc; plus-comm = sum-comm; plus-null = sum-zero-r };
+      times-null = times-zero-r p;
+      null-times = times-zero-l p;
+      null-is = refl;
+      one-not-null = refl;
+    }
+
+-- a matrix with an entry 0 has branch number at most its order
+pub zero-entry-light : (p n : ℕ) (f : ℕ → ℕ → ℕ) (i j : ℕ) → i < n → j < n → f i j ≡ 0 → 1 < 2 ^ degree p → branchNumber (numbers p) (elements p) n f ≤ n
+unfolding elements upTo
+zero-entry-light p n f i j l m z some =
+    null-entry-light (numbers p) (number-nulls p) n f i j l m z (elements p)
+    (tabulate-mem (2 ^ degree p) (λ a. a) 0 (pow-pos (degree p))) (tabulate-mem (2 ^ degree p) (λ a. a) 1 some)
 
 module _ (p : ℕ) (h : Modulus p) where
   -- the field of elements

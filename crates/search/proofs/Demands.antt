@@ -20,13 +20,13 @@ use Rattle.algebra.proofs.Sums.{le-or-lt}
 use Rattle.field.specs.Polynomial.{degree}
 use Rattle.matrix.specs.Numbers.{numbers, elements}
 use Rattle.matrix.proofs.Tallies.{full-line}
+use Rattle.matrix.proofs.Theorems.{zero-entry-light}
 use Rattle.search.specs.Lightest.{Earlier, nothing, found, rowsOver}
 use Rattle.search.specs.Shape.{Shape, rowMatrix, isGood, hadamardShape}
 use Rattle.search.specs.Answer.{keyOf, lightestRow}
 use Rattle.search.specs.Demands.{countOfRow, Before, FirstOf, Both, Demanded}
 use Rattle.search.proofs.Rows.{mem-rows, sorted-rows, getD-mem, not-passed}
 use Rattle.search.proofs.Lightest.{none-sorted, row-sorted, unique-sorted, same-answer}
-use Rattle.search.proofs.ZeroEntries.{zero-entry-light}
 
 -- a row over the brief's elements with what a shape asks for: its matrix of that shape has branch number order plus one, and is an
 -- involution where it has to be

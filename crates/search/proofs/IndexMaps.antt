@@ -17,8 +17,8 @@ use Rattle.search.specs.Lightest.{Earlier, lightest}
 use Rattle.search.specs.Steps.IndexMaps.{Move, from, mapsOfFour, mapsOfEight, moves, moved, inOrder, everyMove, canonical, lowers, turnsBack, affine, sound}
 use Rattle.field.specs.Steps.{everyBelow}
 use Rattle.matrix.proofs.Squares.{every-each}
-use Rattle.search.proofs.Rows.{Sorted, earlier-at, sorted-words, mem-words, getD-mem, mem-tabulate}
-use Rattle.algebra.proofs.Words.{length-tabulate, getD-tabulate}
+use Rattle.search.proofs.Rows.{Sorted, earlier-at, sorted-words, mem-words, getD-mem}
+use Rattle.algebra.proofs.Words.{length-tabulate, getD-tabulate, mem-tabulate}
 use Rattle.algebra.specs.Places.{Inverse}
 use Rattle.algebra.proofs.Sums.{own}
 use Rattle.search.proofs.Lightest.{canonical-suffices}

@@ -1,7 +1,6 @@
 -- The theory of the search, and the laws that its code is proved by.
 pub mod Rows
 pub mod Lightest
-pub mod ZeroEntries
 pub mod Demands
 pub mod Walk
 pub mod Pruning

@@ -11,6 +11,7 @@ use lib.ListN.{length, getD}
 use lib.Dec.{eqb}
 use borrow.Author.Tests.{eqb-true, eq-eqb}
 use Rattle.algebra.specs.Matrix.{tabulate, upTo, before, words}
+use Rattle.algebra.proofs.Words.{tabulate-mem, mem-tabulate}
 use Rattle.algebra.proofs.Symmetry.{same-bool}
 use Rattle.field.specs.Table.{keepIf}
 use Rattle.search.specs.Lightest.{member, among, ascending, rowsOver, Earlier, differs, agrees}
@@ -144,20 +145,6 @@ module _ {A : Type 0} where
   getD-mem [] i d h = absurd (omega arith)
   getD-mem (x ∷ l) zero d h = List·Memᴰ·head refl
   getD-mem (x ∷ l) (suc i) d h = List·Memᴰ·tail (getD-mem l i d (omega arith))
-
-  -- each entry of a table is a member
-  pub tabulate-mem : (n : ℕ) (f : ℕ → A) (i : ℕ) → i < n → List·Memᴰ (f i) (tabulate n f)
-  unfolding tabulate
-  tabulate-mem zero f i h = absurd (omega arith)
-  tabulate-mem (suc n) f zero h = List·Memᴰ·head refl
-  tabulate-mem (suc n) f (suc i) h = List·Memᴰ·tail (tabulate-mem n (λ i. f (suc i)) i (omega arith))
-
-  -- and each member an entry
-  pub mem-tabulate : (n : ℕ) (f : ℕ → A) (y : A) → List·Memᴰ y (tabulate n f) → (i : ℕ) × (i < n) × (y ≡ f i)
-  unfolding tabulate
-  mem-tabulate zero f y m = absurd (List·Memᴰ·not-nil m)
-  mem-tabulate (suc n) f y m =
-      ⊎-elim (λ e. (0, omega arith, e)) (λ k. let (i, h, e) = mem-tabulate n (λ i. f (suc i)) y k in (suc i, omega arith, e)) (List·Memᴰ·cases-cons m)
 
 -- the table of an ascending function ascends
 pub sorted-tabulate : (n : ℕ) (f : ℕ → ℕ) → ((i j : ℕ) → i < j → f i < f j) → Sorted _<_ (tabulate n f)
