@@ -57,6 +57,12 @@ def run(words, **settings):
     return done.returncode, done.stdout, done.stderr
 
 
+def heed_signals():
+    """For a process that a test interrupts: in the background, or behind nohup, what starts it may ignore the signal, and it too."""
+    for number in (signal.SIGINT, signal.SIGHUP):
+        signal.signal(number, signal.SIG_DFL)
+
+
 def write(path, text):
     os.makedirs(os.path.dirname(path), exist_ok=True)
     with open(path, "w", encoding="utf8") as f:
@@ -129,7 +135,7 @@ class Rowfind(Place):
     def begun(self, **settings):
         """A use that goes on in the background."""
         settings = {"stdin": subprocess.DEVNULL, "stdout": subprocess.PIPE, "stderr": subprocess.PIPE, **settings}
-        return subprocess.Popen([self.path("rowfind")], env=self.environment, **settings)
+        return subprocess.Popen([self.path("rowfind")], env=self.environment, preexec_fn=heed_signals, **settings)
 
     def at_work(self):
         """A use that is building, or whose program is running, and the process that only a signal ends."""
@@ -371,7 +377,7 @@ class Ask(Place):
         program = self.program(f"echo $$ >{sleeper}; exec sleep 1000")
         for number in (signal.SIGINT, signal.SIGTERM):
             settings = {"env": dict(os.environ, ROWFIND=program), "stdout": subprocess.DEVNULL, "stderr": subprocess.PIPE}
-            asking = subprocess.Popen([os.path.join(ROOT, "ask"), *self.BRIEF], **settings)
+            asking = subprocess.Popen([os.path.join(ROOT, "ask"), *self.BRIEF], preexec_fn=heed_signals, **settings)
             process = int(wait_for(sleeper, "\n"))
             asking.send_signal(number)
             _, said = asking.communicate(timeout=60)
@@ -520,6 +526,4 @@ class Bindings(Place):
 
 
 if __name__ == "__main__":
-    # A shell without job control has commands in the background ignore an interrupt, and what they start too.
-    signal.signal(signal.SIGINT, signal.default_int_handler)
     unittest.main()
