@@ -3,9 +3,10 @@
 use mathlib.Core.Path.{_≡_, refl, sym, ap, ap₂, _∙_}
 use mathlib.Core.Bool.{Bool, true, false, cond}
 use mathlib.Core.Logic.{_≢_, _⊎_, inl, inr, ⊎-elim}
-use Prim.Native.Nat.{ℕ, zero, suc, _+_, _*_, _≤_, _<_, zero-le, suc-le-suc}
-use native.Mathlib.Nat.{le-of-suc-le-suc, not-suc-le-zero, zero-lt-suc, le-refl, eq-or-lt-of-le, add-assoc, add-comm, add-zero, add-suc, le-suc, le-trans}
+use Prim.Native.Nat.{ℕ, zero, suc, _+_, _*_, _/_, _%_, _≤_, _<_, zero-le, suc-le-suc}
+use native.Mathlib.Nat.{le-of-suc-le-suc, not-suc-le-zero, zero-lt-suc, le-refl, eq-or-lt-of-le, add-assoc, add-comm, add-zero, add-suc, le-suc, le-trans, zero-mul, suc-mul}
 use native.Mathlib.Omega.{arith}
+use lib.Arith.{digits-div, digits-mod}
 use lib.Dec.{eqb, ltb}
 use borrow.Author.Tests.{eq-eqb, ne-eqb, lt-ltb, le-ltb}
 use Rattle.algebra.specs.Operations.{Operations}
@@ -130,6 +131,15 @@ module _ (K : Operations) (L : Additive K) where
   unfolding sum
   sum-add m zero f = rw add-zero (sym (L .plus-null (sum K m f)))
   sum-add m (suc n) f = rw add-suc (ap (λ s. K .plus s (f (m + n))) (sum-add m n f) ∙ L .plus-assoc (sum K m f) (sum K n (λ i. f (m + i))) (f (m + n)))
+
+  -- a sum over the numbers i·m + j is a double sum
+  pub sum-flat : (m n : ℕ) (f : ℕ → ℕ → K .Element) → sum K (n * m) (λ v. f (v / m) (v % m)) ≡ sum K n (λ i. sum K m (λ j. f i j))
+  unfolding sum
+  sum-flat m zero f = rw zero-mul
+  sum-flat m (suc n) f =
+      rw suc-mul
+      (sum-add (n * m) m (λ v. f (v / m) (v % m))
+      ∙ ap₂ (K .plus) (sum-flat m n f) (sum-cong K m _ _ (λ j l. ap₂ f (digits-div n l) (digits-mod n l))))
 
   -- the values taken in another order
   pub sum-permuted : (n : ℕ) (σ ρ : ℕ → ℕ) → Inverse n σ ρ → (f : ℕ → K .Element) → sum K n (λ i. f (σ i)) ≡ sum K n f

@@ -1,8 +1,9 @@
 -- What an accepted request has shown, for every kind: every number of its answer fits six columns (`six-columns`), and the answer has at
--- most 583 bytes (`answer-short`); so 10 is never returned where 583 are lent (`never-ten`). Assumes nothing.
+-- most 52,877 bytes (`answer-short`), less than 64 KiB; so 10 is never returned where 52,877 are lent (`never-ten`). Assumes nothing.
 use mathlib.Core.Path.{_≡_, refl, _∙_}
 use mathlib.Core.Bool.{not, _||_}
-use mathlib.Core.List.{List, [], _∷_, map}
+use mathlib.Core.Logic.{⊎-elim}
+use mathlib.Core.List.{List, [], _∷_, _++_, map}
 use Prim.Native.Nat.{ℕ, zero, suc, _+_, _*_, _^_, _≤_, _<_, zero-le, suc-le-suc}
 use native.Mathlib.Nat.{le-trans, mul-le-mul}
 use native.Mathlib.Omega.{arith}
@@ -16,16 +17,20 @@ use Rattle.field.specs.Table.{polynomials}
 use Rattle.field.proofs.Calls.{not-too-large, modulus-parts}
 use Rattle.matrix.specs.Answers.{checkOf, isWrongOrder}
 use Rattle.matrix.proofs.Tallies.{rowCount-le}
+use Rattle.gates.specs.Gates.{Gate, gate, gatesOfMatrix, carriersOfMatrix}
+use Rattle.gates.specs.Netlist.{Netlist}
+use Rattle.gates.proofs.Netlists.{bits-few, gates-few, netlist}
 use Rattle.search.specs.Answer.{sumOf, someTooLarge}
 use Rattle.search.specs.Demands.{countOfRow}
 use Rattle.search.proofs.LetterCounts.{fits-at}
 use Rattle.text.specs.Text.{SixDigits, answerText}
 use Rattle.text.proofs.Form.{six-none, six-more}
-use Rattle.answer.specs.Due.{Request, Kind, rowLines, search, checkFaults, entriesOf, checkLines, check, surveyFaults, surveyLine, surveyLines, survey, requestIn, faultsOf, due}
+use Rattle.answer.specs.Due.{Request, Kind, rowLines, search, checkFaults, entriesOf, checkLines, check, surveyFaults, surveyLine, surveyLines, survey, gateLine, carrierLine, gateLines, gates, requestIn, faultsOf, due}
 use Rattle.answer.specs.Answered.{Answered}
 use Rattle.answer.proofs.EveryKind.{unknown, kind-holds, faults-to-nine, due-number, due-lines-of, due-passed}
 use Rattle.answer.proofs.Demands.{FirstFault, at-fault, with-room, without-room, first-fault}
 use Rattle.answer.proofs.Replies.{one-length, two-length}
+use Rattle.answer.proofs.GateLines.{gate-lines-short}
 use Rattle.answer.proofs.Surveys.{survey-length, six-survey, starts-few, polynomials-few, polynomials-modulus}
 use Rattle.matrix.proofs.CallFaults.{order-passes}
 use Rattle.answer.proofs.Values.{place-below, degree-passed, six-check}
@@ -34,7 +39,7 @@ use Rattle.answer.proofs.Found.{search-accepted, sum-le, six-row}
 -- the lines of an accepted request fit their columns and the program's space
 pub record Fitting (l : List (List ℕ)) : Type 0 where
   pub six : (i : ℕ) → SixDigits (getD l i [])
-  pub short : length (answerText l) ≤ 583
+  pub short : length (answerText l) ≤ 52877
 
 abbrev FitsWhere : Kind → Type 0
 FitsWhere kind = (r : Request) → firstNumber (kind .faults r) ≡ 0 → Fitting (kind .lines r)
@@ -119,7 +124,7 @@ unfolding surveyLines
 survey-six m l u zero = six-more _ zero-le (six-more _ (omega (arith, polynomials-few m l u)) six-none)
 survey-six m l u (suc i) = map-six (polynomials m) (polynomials-modulus m l u) i
 
--- the longest answer is the survey of degree 8: 583 bytes
+-- the survey of degree 8 has 583 bytes
 survey-fits : FitsWhere survey
 unfolding survey surveyFaults
 survey-fits r e =
@@ -131,6 +136,58 @@ survey-fits r e =
       short = omega (arith, survey-length m (range .0) (range .1), starts-few m (range .1));
     }
 
+-- ---- kind 4
+
+-- lines behind others
+append-six : (a b : List (List ℕ)) → ((i : ℕ) → SixDigits (getD a i [])) → ((i : ℕ) → SixDigits (getD b i [])) → (i : ℕ) → SixDigits (getD (a ++ b) i [])
+append-six [] b h k i = k i
+append-six (l ∷ a) b h k zero = h zero
+append-six (l ∷ a) b h k (suc i) = append-six a b (λ j. h (suc j)) k i
+
+gates-six : (l : List Gate) → ((k : ℕ) → k < length l → (getD l k (gate 0 0) .running ≤ 999999) × (getD l k (gate 0 0) .input ≤ 999999))
+    → (i : ℕ) → SixDigits (getD (map gateLine l) i [])
+gates-six [] h i = six-none
+gates-six (g ∷ l) h zero = let r = h 0 (omega arith) in six-more _ (r .0) (six-more _ (r .1) six-none)
+gates-six (g ∷ l) h (suc i) = gates-six l (λ k m. h (suc k) (suc-le-suc m)) i
+
+carriers-six : (l : List ℕ) → ((k : ℕ) → k < length l → getD l k 0 ≤ 999999) → (i : ℕ) → SixDigits (getD (map carrierLine l) i [])
+carriers-six [] h i = six-none
+carriers-six (c ∷ l) h zero = six-more _ (h 0 (omega arith)) six-none
+carriers-six (c ∷ l) h (suc i) = carriers-six l (λ k m. h (suc k) (suc-le-suc m)) i
+
+module _ (p n : ℕ) (f : ℕ → ℕ → ℕ) (h : Modulus p) (u : n ≤ 8) (small : (i j : ℕ) → i < n → j < n → f i j < 2 ^ degree p) where
+  -- 64 input bits and 4,032 gates are numbered; the one number more is 999999
+  numbers-few : n * degree p + length (gatesOfMatrix p n f) ≤ 4096
+  numbers-few = omega (arith, bits-few p n f h u small, gates-few p n f h u small)
+
+  list : Netlist p n f
+  list = netlist p n f h u small
+
+  gate-lines-six : (i : ℕ) → SixDigits (getD (gateLines p n f) i [])
+  unfolding gateLines
+  gate-lines-six zero = six-more _ zero-le (six-more _ (omega (arith, numbers-few)) six-none)
+  gate-lines-six (suc i) =
+      append-six (map gateLine (gatesOfMatrix p n f)) (map carrierLine (carriersOfMatrix p n f))
+      (gates-six (gatesOfMatrix p n f) (λ k l. let r = list .gates-join k l in (omega (arith, r .running-earlier, numbers-few), omega (arith, r .input-earlier, numbers-few))))
+      (carriers-six (carriersOfMatrix p n f) (λ k l.
+      ⊎-elim (λ (e : getD (carriersOfMatrix p n f) k 0 ≡ 999999). omega arith)
+      (λ (q : getD (carriersOfMatrix p n f) k 0 < n * degree p + length (gatesOfMatrix p n f)). omega (arith, numbers-few))
+      (list .carriers-exist k (rw (list .carriers-counted) at l))))
+      i
+
+gates-fits : FitsWhere gates
+unfolding gates entriesOf
+gates-fits r e =
+    let p = r .polynomial in
+    let n = r .order in
+    let v = r .values in
+    let c = check-accepted p n v e in
+    let small : (i j : ℕ) → i < n → j < n → entriesOf n v i j < 2 ^ degree p = λ i j a b. c .small (i * n + j) (place-below n i j a b) in
+    record {
+      six = gate-lines-six p n (entriesOf n v) (c .modulus) (c .high) small;
+      short = gate-lines-short p n (entriesOf n v) (c .modulus) (c .high) small;
+    }
+
 -- ---- every kind
 
 none-fits : (k : ℕ) → FitsWhere (unknown k)
@@ -139,19 +196,19 @@ none-fits k r e = let z : ⊥ = omega arith in absurd z
 
 pub accepted-fits : (text : List ℕ) → due text .number ≡ 0 → Fitting (due text .value)
 accepted-fits text e =
-    rw (due-lines-of text e) (kind-holds FitsWhere search-fits check-fits survey-fits none-fits text (requestIn text) (due-passed text e))
+    rw (due-lines-of text e) (kind-holds FitsWhere search-fits check-fits survey-fits gates-fits none-fits text (requestIn text) (due-passed text e))
 
 -- every number of an accepted answer fits six columns
 pub six-columns : (text : List ℕ) → due text .number ≡ 0 → (i : ℕ) → SixDigits (getD (due text .value) i [])
 six-columns text e = accepted-fits text e .six
 
-pub answer-short : (text : List ℕ) → due text .number ≡ 0 → length (answerText (due text .value)) ≤ 583
+pub answer-short : (text : List ℕ) → due text .number ≡ 0 → length (answerText (due text .value)) ≤ 52877
 answer-short text e = accepted-fits text e .short
 
 -- ---- number 10
 
--- with 583 bytes lent, 10 is never returned
-pub never-ten : {text space after : List ℕ} {number size : ℕ} → Answered text space after number size → 583 ≤ length space → number ≡ 10 → ⊥
+-- with 52,877 bytes lent, 10 is never returned
+pub never-ten : {text space after : List ℕ} {number size : ℕ} → Answered text space after number size → 52877 ≤ length space → number ≡ 10 → ⊥
 never-ten {text} {space} {number = number} a h = go (first-fault a)
   where
     go : FirstFault text space number → number ≡ 10 → ⊥

@@ -21,7 +21,7 @@ use Rattle.search.specs.Answer.{sumOf, lightestRow}
 use Rattle.search.proofs.Demands.{NoZero}
 use Rattle.search.proofs.Rows.{getD-mem}
 use Rattle.text.specs.Reading.{inForm, kindOf, valuesOf}
-use Rattle.answer.specs.Due.{Request, Kind, rowLines, search, entriesOf, checkLines, check, survey, kinds, kindAmong, kindIn, requestIn, faultsOf, due}
+use Rattle.answer.specs.Due.{Request, Kind, rowLines, search, entriesOf, checkLines, check, survey, gates, kinds, kindAmong, kindIn, requestIn, faultsOf, due}
 use Rattle.answer.specs.Answered.{textOf}
 use Rattle.answer.proofs.EveryKind.{kind-number}
 use Rattle.answer.proofs.Found.{search-accepted}
@@ -50,7 +50,7 @@ checkLinesBefore p n f =
     ∷ [])
     ∷ []
 
--- the kinds: the same numbers and faults, and these lines
+-- the kinds: the same numbers and faults, and these lines; kind 4, which came later, as it is
 unfoldable pub searchBefore : Kind
 searchBefore =
     record {
@@ -68,7 +68,7 @@ checkBefore =
     }
 
 unfoldable pub kindsBefore : List Kind
-kindsBefore = searchBefore ∷ checkBefore ∷ survey ∷ []
+kindsBefore = searchBefore ∷ checkBefore ∷ survey ∷ gates ∷ []
 
 -- what was due to a text
 unfoldable pub dueBefore : List ℕ → Answer (List (List ℕ))
@@ -123,11 +123,12 @@ chosen-alike true x y x′ y′ h k = h
 chosen-alike false x y x′ y′ h k = k
 
 kinds-alike : (k : ℕ) → Alike (kindAmong kinds k) (kindAmong kindsBefore k)
-unfolding kinds kindsBefore kindAmong search searchBefore check checkBefore survey
+unfolding kinds kindsBefore kindAmong search searchBefore check checkBefore survey gates
 kinds-alike k =
     chosen-alike (eqb k 1) search _ searchBefore _ search-alike
     (chosen-alike (eqb k 2) check _ checkBefore _ check-alike
-    (chosen-alike (eqb k 3) survey _ survey _ (λ r. (refl, λ e h. refl)) (λ r. (refl, λ e h. refl))))
+    (chosen-alike (eqb k 3) survey _ survey _ (λ r. (refl, λ e h. refl))
+    (chosen-alike (eqb k 4) gates _ gates _ (λ r. (refl, λ e h. refl)) (λ r. (refl, λ e h. refl)))))
 
 -- ---- every text
 

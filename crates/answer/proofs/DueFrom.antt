@@ -12,7 +12,7 @@ use Rattle.text.specs.declared.Header.the-variants.{Read}
 use Rattle.text.specs.Reading.{inForm, kindOf, polynomialOf, orderOf, countOf, valuesFrom, valuesOf, saysHeader, headerAnswer}
 use Rattle.text.proofs.Form.{part-is}
 use Rattle.text.proofs.Requests.{header-read}
-use Rattle.answer.specs.Due.{Kind, Request, request, search, check, survey, kinds, kindAmong, dueTo, kindIn, requestIn, faultsOf, due}
+use Rattle.answer.specs.Due.{Kind, Request, request, search, check, survey, gates, kinds, kindAmong, dueTo, kindIn, requestIn, faultsOf, due}
 
 -- ---- by the kind
 
@@ -21,20 +21,24 @@ kind-due e r = ap (λ (k : Kind). dueTo k r) e
 
 module _ (kind : ℕ) where
   pub kind-search : kind ≡ 1 → search ≡ kindAmong kinds kind
-  unfolding kinds kindAmong search check survey
+  unfolding kinds kindAmong search check survey gates
   kind-search e = rw e
 
   pub kind-check : kind ≡ 2 → check ≡ kindAmong kinds kind
-  unfolding kinds kindAmong search check survey
+  unfolding kinds kindAmong search check survey gates
   kind-check e = rw e
 
   pub kind-survey : kind ≡ 3 → survey ≡ kindAmong kinds kind
-  unfolding kinds kindAmong search check survey
+  unfolding kinds kindAmong search check survey gates
   kind-survey e = rw e
 
-  pub kind-unknown : (r : Request) → (kind ≡ 1 → ⊥) → (kind ≡ 2 → ⊥) → (kind ≡ 3 → ⊥) → answer 2 [] ≡ dueTo (kindAmong kinds kind) r
-  unfolding dueTo kinds kindAmong search check survey
-  kind-unknown r a b c = rw (ne-eqb kind 1 a, ne-eqb kind 2 b, ne-eqb kind 3 c) (after-taken [] [] UnknownKind true [] refl)
+  pub kind-gates : kind ≡ 4 → gates ≡ kindAmong kinds kind
+  unfolding kinds kindAmong search check survey gates
+  kind-gates e = rw e
+
+  pub kind-unknown : (r : Request) → (kind ≡ 1 → ⊥) → (kind ≡ 2 → ⊥) → (kind ≡ 3 → ⊥) → (kind ≡ 4 → ⊥) → answer 2 [] ≡ dueTo (kindAmong kinds kind) r
+  unfolding dueTo kinds kindAmong search check survey gates
+  kind-unknown r a b c d = rw (ne-eqb kind 1 a, ne-eqb kind 2 b, ne-eqb kind 3 c, ne-eqb kind 4 d) (after-taken [] [] UnknownKind true [] refl)
 
 -- ---- from the text
 

@@ -13,7 +13,7 @@ use Rattle.field.specs.Faults.{polynomialFaults}
 use Rattle.search.specs.Answer.{searchFaults}
 use Rattle.text.specs.Reading.{kindOf}
 use Rattle.answer.proofs.DueFrom.{kind-search}
-use Rattle.answer.specs.Due.{Request, Kind, checkFaults, surveyFaults, search, check, survey, kinds, kindAmong, kindIn, requestIn, faultsOf, due}
+use Rattle.answer.specs.Due.{Request, Kind, checkFaults, surveyFaults, search, check, survey, gates, kinds, kindAmong, kindIn, requestIn, faultsOf, due}
 
 -- a kind that no text has: 2 applies
 abbrev pub unknown : ℕ → Kind
@@ -34,9 +34,9 @@ among-holds P done k u = u
 among-holds P (next {kind = kind} {rest = rest} h more) k u = kind-chosen P (eqb k (kind .number)) kind (kindAmong rest k) h (among-holds P more k u)
 
 -- one law for all kinds
-pub kind-holds : (P : Kind → Type 0) → P search → P check → P survey → ((k : ℕ) → P (unknown k)) → (text : List ℕ) → P (kindIn text)
+pub kind-holds : (P : Kind → Type 0) → P search → P check → P survey → P gates → ((k : ℕ) → P (unknown k)) → (text : List ℕ) → P (kindIn text)
 unfolding kindIn kinds
-kind-holds P s c v u text = among-holds P (next s (next c (next v done))) (kindOf text) (u (kindOf text))
+kind-holds P s c v g u text = among-holds P (next s (next c (next v (next g done)))) (kindOf text) (u (kindOf text))
 
 -- a kind has its number
 number-chosen : (b : Bool) (x y : Kind) (k : ℕ) → eqb k (x .number) ≡ b → y .number ≡ k → cond b x y .number ≡ k
@@ -63,8 +63,9 @@ abbrev Ordered : Kind → Type 0
 Ordered kind = (r : Request) → (numbered (kind .faults r) ≡ true) × (ascends 1 (kind .faults r) ≡ true) × (most 9 (kind .faults r) ≡ true)
 
 ordered : (text : List ℕ) → Ordered (kindIn text)
-unfolding search check survey searchFaults checkFaults surveyFaults polynomialFaults numbered ascends most
-ordered text = kind-holds Ordered (λ r. (refl, refl, refl)) (λ r. (refl, refl, refl)) (λ r. (refl, refl, refl)) (λ k r. (refl, refl, refl)) text
+unfolding search check survey gates searchFaults checkFaults surveyFaults polynomialFaults numbered ascends most
+ordered text =
+    kind-holds Ordered (λ r. (refl, refl, refl)) (λ r. (refl, refl, refl)) (λ r. (refl, refl, refl)) (λ r. (refl, refl, refl)) (λ k r. (refl, refl, refl)) text
 
 pub faults-numbered : (text : List ℕ) → numbered (faultsOf text) ≡ true
 unfolding faultsOf numbered
@@ -83,8 +84,8 @@ abbrev NineOfSearch : Kind → Type 0
 NineOfSearch kind = (r : Request) → (kind .number ≡ 1) ⊎ (lacks 9 (kind .faults r) ≡ true)
 
 nine-of-search : (text : List ℕ) → NineOfSearch (kindIn text)
-unfolding search check survey checkFaults surveyFaults polynomialFaults lacks
-nine-of-search text = kind-holds NineOfSearch (λ r. inl refl) (λ r. inr refl) (λ r. inr refl) (λ k r. inr refl) text
+unfolding search check survey gates checkFaults surveyFaults polynomialFaults lacks
+nine-of-search text = kind-holds NineOfSearch (λ r. inl refl) (λ r. inr refl) (λ r. inr refl) (λ r. inr refl) (λ k r. inr refl) text
 
 pub nine-is-search : (text : List ℕ) → Applies (faultsOf text) 9 → kindOf text ≡ 1
 unfolding faultsOf lacks

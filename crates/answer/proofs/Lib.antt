@@ -4,6 +4,7 @@ pub mod Replies
 pub mod Values
 pub mod Found
 pub mod Surveys
+pub mod GateLines
 pub mod EveryKind
 pub mod Limits
 pub mod Demands
@@ -16,4 +17,5 @@ pub mod SurveyLines
 pub mod Lines
 pub mod RowCounts
 pub mod AsBefore
+pub mod BeforeGates
 pub mod FewCandidates

@@ -20,10 +20,10 @@ use Rattle.search.proofs.Limits.{some-too-large-exactly, search-exactly}
 use Rattle.text.specs.Text.{InForm}
 use Rattle.text.specs.Reading.{inForm, kindOf}
 use Rattle.text.proofs.Requests.{in-form-exactly}
-use Rattle.answer.specs.Due.{Request, Kind, checkFaults, surveyFaults, search, check, survey, kinds, kindAmong, kindIn, requestIn, faultsOf}
-use Rattle.answer.specs.Limits.{CheckStated, SurveyStated, wrong-degree, order-not-zero, count-not-zero, RequestStated, no-kind, of-search, of-check, of-survey, StatedOf, not-in-form, of-request}
+use Rattle.answer.specs.Due.{Request, Kind, checkFaults, surveyFaults, search, check, survey, gates, kinds, kindAmong, kindIn, requestIn, faultsOf}
+use Rattle.answer.specs.Limits.{CheckStated, SurveyStated, wrong-degree, order-not-zero, count-not-zero, RequestStated, no-kind, of-search, of-check, of-survey, of-gates, StatedOf, not-in-form, of-request}
 use Rattle.answer.specs.Demands.{WellFormedSearch}
-use Rattle.answer.proofs.DueFrom.{kind-search, kind-check, kind-survey}
+use Rattle.answer.proofs.DueFrom.{kind-search, kind-check, kind-survey, kind-gates}
 use Rattle.answer.proofs.EveryKind.{unknown}
 
 -- ---- a check
@@ -66,22 +66,32 @@ survey-exactly m order values k = (to, from)
 -- what is stated of a request is stated by its kind
 module _ {kind polynomial order : ℕ} {values : List ℕ} where
   stated-search : {k : ℕ} → kind ≡ 1 → RequestStated kind polynomial order values k → SearchStated polynomial order values k
-  stated-search e (no-kind a b c) = absurd (a e)
+  stated-search e (no-kind a b c d) = absurd (a e)
   stated-search e (of-search d s) = s
   stated-search e (of-check d s) = let z : ⊥ = omega arith in absurd z
   stated-search e (of-survey d s) = let z : ⊥ = omega arith in absurd z
+  stated-search e (of-gates d s) = let z : ⊥ = omega arith in absurd z
 
   stated-check : {k : ℕ} → kind ≡ 2 → RequestStated kind polynomial order values k → CheckStated polynomial order values k
-  stated-check e (no-kind a b c) = absurd (b e)
+  stated-check e (no-kind a b c d) = absurd (b e)
   stated-check e (of-search d s) = let z : ⊥ = omega arith in absurd z
   stated-check e (of-check d s) = s
   stated-check e (of-survey d s) = let z : ⊥ = omega arith in absurd z
+  stated-check e (of-gates d s) = let z : ⊥ = omega arith in absurd z
 
   stated-survey : {k : ℕ} → kind ≡ 3 → RequestStated kind polynomial order values k → SurveyStated polynomial order values k
-  stated-survey e (no-kind a b c) = absurd (c e)
+  stated-survey e (no-kind a b c d) = absurd (c e)
   stated-survey e (of-search d s) = let z : ⊥ = omega arith in absurd z
   stated-survey e (of-check d s) = let z : ⊥ = omega arith in absurd z
   stated-survey e (of-survey d s) = s
+  stated-survey e (of-gates d s) = let z : ⊥ = omega arith in absurd z
+
+  stated-gates : {k : ℕ} → kind ≡ 4 → RequestStated kind polynomial order values k → CheckStated polynomial order values k
+  stated-gates e (no-kind a b c d) = absurd (d e)
+  stated-gates e (of-search d s) = let z : ⊥ = omega arith in absurd z
+  stated-gates e (of-check d s) = let z : ⊥ = omega arith in absurd z
+  stated-gates e (of-survey d s) = let z : ⊥ = omega arith in absurd z
+  stated-gates e (of-gates d s) = s
 
 module _ (number : ℕ) (r : Request) (k : ℕ) where
   -- the numbers of a kind's faults are those stated of a request of this number
@@ -106,19 +116,26 @@ module _ (number : ℕ) (r : Request) (k : ℕ) where
       let exactly = survey-exactly (r .polynomial) (r .order) (r .values) k in
       (λ m. of-survey e (exactly .0 m), λ s. exactly .1 (stated-survey e s))
 
-  unknown-limited : number ≢ 1 → number ≢ 2 → number ≢ 3 → Limited (unknown number)
+  gates-limited : number ≡ 4 → Limited gates
+  unfolding gates
+  gates-limited e =
+      let exactly = check-exactly (r .polynomial) (r .order) (r .values) k in
+      (λ m. of-gates e (exactly .0 m), λ s. exactly .1 (stated-gates e s))
+
+  unknown-limited : number ≢ 1 → number ≢ 2 → number ≢ 3 → number ≢ 4 → Limited (unknown number)
   unfolding Applies
-  unknown-limited a b c = (fault-cases 2 (λ e t. rw e (no-kind a b c)) (λ m. absurd (List·Memᴰ·not-nil m)), from)
+  unknown-limited a b c d = (fault-cases 2 (λ e t. rw e (no-kind a b c d)) (λ m. absurd (List·Memᴰ·not-nil m)), from)
     where
       from : {k : ℕ} → RequestStated number (r .polynomial) (r .order) (r .values) k → List·Memᴰ (fault k true) (fault 2 true ∷ [])
-      from (no-kind d e f) = fault-here 2 refl
+      from (no-kind e f g i) = fault-here 2 refl
       from (of-search e s) = absurd (a e)
       from (of-check e s) = absurd (b e)
       from (of-survey e s) = absurd (c e)
+      from (of-gates e s) = absurd (d e)
 
-  kind-other : number ≢ 1 → number ≢ 2 → number ≢ 3 → unknown number ≡ kindAmong kinds number
-  unfolding kinds kindAmong search check survey
-  kind-other a b c = rw (ne-eqb number 1 a, ne-eqb number 2 b, ne-eqb number 3 c) refl
+  kind-other : number ≢ 1 → number ≢ 2 → number ≢ 3 → number ≢ 4 → unknown number ≡ kindAmong kinds number
+  unfolding kinds kindAmong search check survey gates
+  kind-other a b c d = rw (ne-eqb number 1 a, ne-eqb number 2 b, ne-eqb number 3 c, ne-eqb number 4 d) refl
 
   kind-limited : k ≤ 8 → Limited (kindAmong kinds number)
   kind-limited l = elim (ℕ-discrete number 1) [
@@ -127,7 +144,10 @@ module _ (number : ℕ) (r : Request) (k : ℕ) where
       | yes b ↦ subst Limited (kind-check number b) (check-limited b)
       | no b ↦ elim (ℕ-discrete number 3) [
         | yes c ↦ subst Limited (kind-survey number c) (survey-limited c)
-        | no c ↦ subst Limited (kind-other a b c) (unknown-limited a b c)
+        | no c ↦ elim (ℕ-discrete number 4) [
+          | yes d ↦ subst Limited (kind-gates number d) (gates-limited d)
+          | no d ↦ subst Limited (kind-other a b c d) (unknown-limited a b c d)
+        ]
       ]
     ]
   ]
@@ -155,10 +175,11 @@ survey-most (order-not-zero h) = lit≤ tt
 survey-most (count-not-zero h) = lit≤ tt
 
 request-most : {kind polynomial order : ℕ} {values : List ℕ} {k : ℕ} → RequestStated kind polynomial order values k → k ≤ 8
-request-most (no-kind a b c) = lit≤ tt
+request-most (no-kind a b c d) = lit≤ tt
 request-most (of-search e s) = stated-most s
 request-most (of-check e s) = stated-most s
 request-most (of-survey e s) = survey-most s
+request-most (of-gates e s) = stated-most s
 
 text-most : {text : List ℕ} {k : ℕ} → StatedOf text k → k ≤ 8
 text-most (not-in-form h) = lit≤ tt

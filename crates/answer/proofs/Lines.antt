@@ -23,6 +23,7 @@ use Rattle.field.specs.Faults.{isOutside, isTooLarge, polynomialFaults, inverse
 use Rattle.matrix.specs.Numbers.{elements}
 use Rattle.matrix.specs.Counts.{total, elementCount, additionCount, rowCount, matrixCount}
 use Rattle.matrix.specs.Answers.{checkOf, isWrongOrder, isWrongHalvedOrder, someWordTooLarge, someEntryTooLarge, determinantFaults, matrixFaults, halvedFaults}
+use Rattle.gates.specs.Gates.{bit, isInput, inputsOf, outputs, joining, gatesOf, carrierOf, gatesFrom, carriersFrom, gatesOfMatrix, carriersOfMatrix}
 use Rattle.search.specs.Lightest.{member, Best, nothing, found}
 use Rattle.search.specs.Shape.{hadamardShape}
 use Rattle.search.specs.Answer.{isWrongSearchOrder, isWrongSearchCount, someTooLarge, someRepeated, someBad, sumOf, lightestRow, searchFaults}
@@ -33,9 +34,9 @@ use Rattle.text.specs.Text.{columnByte, column, columns, lineText, lineEnd, val
 use Rattle.text.proofs.Lengths.{length-request}
 use Rattle.text.proofs.Form.{six-none, six-more}
 use Rattle.text.proofs.Requests.{ReadAs, written-read}
-use Rattle.answer.specs.Due.{request, rowLines, bestLines, search, checkFaults, entriesOf, checkLines, check, surveyFaults, surveyLine, surveyLines, survey, kinds, kindAmong, dueTo, kindIn, requestIn, faultsOf, due}
+use Rattle.answer.specs.Due.{request, rowLines, bestLines, search, checkFaults, entriesOf, checkLines, check, surveyFaults, surveyLine, surveyLines, survey, gateLines, gates, kinds, kindAmong, dueTo, kindIn, requestIn, faultsOf, due}
 use Rattle.answer.specs.Answered.{Rearranged, same, more, swapped, further, MayWrite, due-lines, survey-lines, textOf}
-use Rattle.answer.specs.Reference.{ReferenceLine, texts, power, IsDue, ReferenceSays, AllReferenceSay, all-none, _and_, elementLines, searches, checks, refusals, from-one, limits, bytesOf, example, referenceLines}
+use Rattle.answer.specs.Reference.{ReferenceLine, texts, power, IsDue, ReferenceSays, AllReferenceSay, all-none, _and_, elementLines, searches, checks, gateLists, gateTexts, refusals, from-one, limits, bytesOf, example, referenceLines}
 
 -- ---- from the numbers of a request to its text
 
@@ -164,6 +165,27 @@ checks-hold =
     and due-request 3 3 0 [] refl
     and all-none
 
+gate-lists-hold : AllReferenceSay gateLists
+unfolding ReferenceSays gateLists fits allSix dueTo kinds kindAmong search check survey gates answerAfter firstNumber checkFaults polynomialFaults isWrongOrder isOutside isIrreducible someBelow someTooLarge isTooLarge gateLines entriesOf gatesOfMatrix carriersOfMatrix outputs inputsOf isInput bit gatesFrom carriersFrom gatesOf carrierOf joining passing tabulate product rem reduce degree overDigits digitsWithin _⊗_ _⊕_
+gate-lists-hold =
+    is-due 4 7 2 _ refl _ (fixed 4 _ (λ h. omega arith)) refl
+    and is-due 4 7 1 _ refl _ (fixed 4 _ (λ h. omega arith)) refl
+    and is-due 4 7 1 _ refl _ (fixed 4 _ (λ h. omega arith)) refl
+    and is-due 4 11 2 _ refl _ (fixed 4 _ (λ h. omega arith)) refl
+    and is-due 4 3 1 _ refl _ (fixed 4 _ (λ h. omega arith)) refl
+    and is-due 4 7 0 _ refl _ (fixed 4 _ (λ h. omega arith)) refl
+    and is-due 4 7 9 _ refl _ (fixed 4 _ (λ h. omega arith)) refl
+    and is-due 4 7 2 _ refl _ (fixed 4 _ (λ h. omega arith)) refl
+    and is-due 4 7 1 _ refl _ (fixed 4 _ (λ h. omega arith)) refl
+    and is-due 5 7 1 _ refl _ (fixed 5 _ (λ h. omega arith)) refl
+    and all-none
+
+gate-texts-hold : AllReferenceSay gateTexts
+unfolding ReferenceSays gateTexts fits allSix dueTo kinds kindAmong search check survey gates answerAfter firstNumber checkFaults polynomialFaults isWrongOrder isOutside isIrreducible someBelow someTooLarge isTooLarge gateLines entriesOf gatesOfMatrix carriersOfMatrix outputs inputsOf isInput bit gatesFrom carriersFrom gatesOf carrierOf joining passing tabulate product rem reduce degree overDigits digitsWithin _⊗_ _⊕_ requestText answerText lineText columns column columnByte valueText lineEnd bytesOf
+gate-texts-hold =
+    let d : Answer (List (List ℕ)) = answer 0 ((0 ∷ 1 ∷ []) ∷ (0 ∷ 1 ∷ []) ∷ (2 ∷ []) ∷ (0 ∷ []) ∷ []) in
+    and-texts d (is-due 4 7 1 (3 ∷ []) refl d (fixed 4 (d .value) (λ h. omega arith)) refl) refl all-none
+
 refusals-hold : AllReferenceSay refusals
 unfolding ReferenceSays refusals firstNumber inverseFaults determinantFaults matrixFaults halvedFaults polynomialFaults isOutside isIrreducible isTooLarge isWrongOrder isWrongHalvedOrder someEntryTooLarge someWordTooLarge someBelow degree overDigits digitsWithin _⊗_ _⊕_
 refusals-hold = refl and refl and refl and refl and refl and refl and refl and refl and all-none
@@ -204,4 +226,9 @@ limits-hold =
 -- every line of the table
 pub lines-hold : AllReferenceSay referenceLines
 unfolding referenceLines
-lines-hold = all-append (all-append (all-append (all-append (all-append elements-hold searches-hold) checks-hold) refusals-hold) limits-hold) example-holds
+lines-hold =
+    all-append
+    (all-append
+    (all-append (all-append (all-append (all-append (all-append elements-hold searches-hold) checks-hold) gate-lists-hold) gate-texts-hold) refusals-hold)
+    limits-hold)
+    example-holds

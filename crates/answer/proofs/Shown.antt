@@ -1,4 +1,4 @@
--- What the program shows after a call with at least 583 bytes: the answer, or the refusal's line, and every byte behind it as before.
+-- What the program shows after a call with at least 52,877 bytes: the answer, or the refusal's line, and every byte behind it as before.
 -- Assumes nothing.
 use mathlib.Core.Path.{_≡_, refl, sym, ap, _∙_}
 use mathlib.Core.List.{List, [], _∷_, _++_}
@@ -19,7 +19,7 @@ fits-front text space h = rw (le-leb (length text) (length space) h)
 
 -- the text that is due fits, and has as many bytes as are shown
 record ShownBytes (text shown : List ℕ) (number size : ℕ) : Type 0 where
-  few : length shown ≤ 583
+  few : length shown ≤ 52877
   of-answer : number ≡ 0 → size ≡ length shown
   of-refusal : (number ≡ 0 → ⊥) → 7 ≡ length shown
 
@@ -27,7 +27,7 @@ length-accepted : (n size long : ℕ) → n ≡ 0 → size ≡ lengthReturned n 
 length-accepted zero size long z s = s
 length-accepted (suc n) size long z s = let y : ⊥ = omega arith in absurd y
 
-shown-length : {text space after : List ℕ} {number size : ℕ} (a : Answered text space after number size) → 583 ≤ length space → (m : ℕ) → due text .number ≡ m
+shown-length : {text space after : List ℕ} {number size : ℕ} (a : Answered text space after number size) → 52877 ≤ length space → (m : ℕ) → due text .number ≡ m
     → ShownBytes text (textOf m (a .written)) number size
 shown-length {text} {space} {number = number} {size = size} a h zero e =
     let short = answer-short text e in
@@ -43,7 +43,7 @@ shown-length {text} {space} {number = number} a h (suc m) e =
     let number-is : number ≡ suc m = a .leaves .number-is ∙ rw e in
     record { few = omega arith; of-answer = λ z. let y : ⊥ = omega arith in absurd y; of-refusal = λ z. sym line }
 
-module _ {text space after : List ℕ} {number size : ℕ} (a : Answered text space after number size) (h : 583 ≤ length space) where
+module _ {text space after : List ℕ} {number size : ℕ} (a : Answered text space after number size) (h : 52877 ≤ length space) where
   shown-at : (count : ℕ) → count ≡ length (textOf (due text .number) (a .written)) → Shown text space after count
   shown-at count e =
       let fits = shown-length a h (due text .number) refl .few in

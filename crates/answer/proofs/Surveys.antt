@@ -15,6 +15,7 @@ use lib.Seq.{drop-cons, length-take-le, getD-take, getD-drop}
 use Rattle.field.specs.Polynomial.{Modulus, degree, xorCount}
 use Rattle.field.specs.Table.{table, polynomials}
 use Rattle.field.specs.Steps.{startOf}
+use Rattle.field.proofs.Irreducibility.{every-at}
 use Rattle.field.proofs.Completeness.{part, polynomials-part, table-length, table-sound}
 use Rattle.matrix.specs.Counts.{total}
 use Rattle.field.specs.Steps.{everyBelow}
@@ -66,14 +67,6 @@ six-survey p h =
     (six-more _ (omega (arith, squares-le p (2 ^ degree p - 1) h)) six-none))
 
 -- ---- the table
-
--- a test of every number below n, computed
-every-at : (n : ℕ) (test : ℕ → Bool) → everyBelow n test ≡ true → (i : ℕ) → i < n → test i ≡ true
-unfolding everyBelow
-every-at zero test e i h = absurd (not-suc-le-zero h)
-every-at (suc n) test e i h =
-    let both = both-true (everyBelow n test) (test n) e in
-    ⊎-elim (λ (q : i ≡ n). ap test q ∙ both .1) (λ (l : i < n). every-at n test (both .0) i l) (eq-or-lt-of-le (le-of-suc-le-suc h))
 
 -- every entry of the table makes a field
 pub table-modulus : (i : ℕ) → i < 69 → Modulus (getD table i 0)

@@ -15,10 +15,10 @@ use Rattle.field.specs.Polynomial.{Modulus, degree}
 use Rattle.field.specs.Faults.{isTooLarge}
 use Rattle.field.proofs.Calls.{not-too-large}
 use Rattle.matrix.specs.Numbers.{numbers, elements}
-use Rattle.matrix.specs.Counts.{rowCount, matrixCount}
+use Rattle.matrix.specs.Counts.{matrixCount}
 use Rattle.matrix.specs.Answers.{yesNo, checkOf}
 use Rattle.matrix.proofs.CallFaults.{or-none}
-use Rattle.matrix.proofs.Tallies.{rowCount-le, rowCount-cong, total-rows, total-le, total-cong}
+use Rattle.matrix.proofs.Tallies.{rowCount-cong, total-cong, matrixCount-le}
 use Rattle.matrix.proofs.Theorems.{branch-most}
 use Rattle.search.specs.Answer.{someTooLarge}
 use Rattle.search.proofs.LetterCounts.{fits-at}
@@ -65,7 +65,7 @@ pub place-below : (n i j : ℕ) → i < n → j < n → i * n + j < n * n
 place-below n i j l m = omega (arith, mul-le-mul l (le-refl n), suc-mul i n)
 
 -- the entries of the values, as they are read
-entries-read : (s : List ℕ) (n i j : ℕ) → i < n → j < n → entriesOf n (valuesFrom s 0 (n * n)) i j ≡ valueAt s (i * n + j)
+pub entries-read : (s : List ℕ) (n i j : ℕ) → i < n → j < n → entriesOf n (valuesFrom s 0 (n * n)) i j ≡ valueAt s (i * n + j)
 unfolding entriesOf
 entries-read s n i j l m = value-read s (n * n) (i * n + j) (place-below n i j l m)
 
@@ -83,11 +83,6 @@ check-cong p n f g e =
       involution-cong (numbers p) n f g e (elements p),
       matrixCount-cong p n f g e,
     )
-
--- a matrix counts at most 4,032
-matrixCount-le : (p n : ℕ) (f : ℕ → ℕ → ℕ) → Modulus p → n ≤ 8 → matrixCount p n f ≤ 4032
-matrixCount-le p n f h l =
-    rw (← total-rows p n f) (omega (arith, total-le n 504 (λ i. rowCount p n (f i)) (λ i. rowCount-le p n (f i) h l)))
 
 yesNo-le : (b : Bool) → yesNo b ≤ 1
 yesNo-le true = le-refl 1

@@ -1,7 +1,7 @@
--- What is due to a request text, in the words of document 01: what a request is; for each kind its faults in the order in which they are
+-- What is due to a request text, in the words of documents 01 and 02: what a request is; for each kind its faults in the order in which they are
 -- looked at, and its lines; the table of kinds; and what is due. Assumes nothing.
 use mathlib.Core.Bool.{true, false, not, cond, _||_}
-use mathlib.Core.List.{List, [], _∷_, map}
+use mathlib.Core.List.{List, [], _∷_, _++_, map}
 use Prim.Native.Nat.{ℕ, suc, _+_, _-_, _*_, _^_}
 use lib.Dec.{eqb, ltb}
 use lib.ListN.{length, getD}
@@ -11,6 +11,7 @@ use Rattle.field.specs.Table.{polynomials}
 use Rattle.field.specs.Faults.{callFaults}
 use Rattle.matrix.specs.Counts.{total}
 use Rattle.matrix.specs.Answers.{checkOf, isWrongOrder}
+use Rattle.gates.specs.Gates.{Gate, gatesOfMatrix, carriersOfMatrix}
 use Rattle.search.specs.Lightest.{Best, nothing, found}
 use Rattle.search.specs.Shape.{hadamardShape}
 use Rattle.search.specs.Answer.{sumOf, lightestRow, someTooLarge, searchFaults}
@@ -98,11 +99,33 @@ survey =
       lines = λ r. surveyLines (r .polynomial);
     }
 
+-- ---- kind 4, gates: the request of a check
+
+-- a gate's line: the running result first, then the input joined to it
+abbrev pub gateLine : Gate → List ℕ
+gateLine g = g .running ∷ g .input ∷ []
+
+-- an output bit's line: the number that carries it
+abbrev pub carrierLine : ℕ → List ℕ
+carrierLine number = number ∷ []
+
+-- 0 and the number of gates; then a line for each gate; then a line for each output bit
+unfoldable pub gateLines : ℕ → ℕ → (ℕ → ℕ → ℕ) → List (List ℕ)
+gateLines p n f = (0 ∷ length (gatesOfMatrix p n f) ∷ []) ∷ map gateLine (gatesOfMatrix p n f) ++ map carrierLine (carriersOfMatrix p n f)
+
+unfoldable pub gates : Kind
+gates =
+    record {
+      number = 4;
+      faults = λ r. checkFaults (r .polynomial) (r .order) (r .values);
+      lines = λ r. gateLines (r .polynomial) (r .order) (entriesOf (r .order) (r .values));
+    }
+
 -- ---- the request text
 
 -- the kinds
 unfoldable pub kinds : List Kind
-kinds = search ∷ check ∷ survey ∷ []
+kinds = search ∷ check ∷ survey ∷ gates ∷ []
 
 -- the kind of a number; to a number that no kind has, 2 applies
 unfoldable pub kindAmong : List Kind → ℕ → Kind

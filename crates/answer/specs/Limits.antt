@@ -1,4 +1,5 @@
--- What document 01 says of the numbers 1 to 8 under "Who can cause a refusal", of a request text, kind by kind. Assumes nothing.
+-- What document 01 says of the numbers 1 to 8 under "Who can cause a refusal", of a request text, kind by kind; kind 4 by document 02, Two.
+-- Assumes nothing.
 use mathlib.Core.Path.{_≡_}
 use mathlib.Core.Logic.{_≢_, _⊎_}
 use mathlib.Core.List.{List, List·Memᴰ}
@@ -24,12 +25,14 @@ pub data SurveyStated (m order : ℕ) (values : List ℕ) : ℕ → Type 0 where
 
 -- the numbers of line one and the values
 pub data RequestStated (kind polynomial order : ℕ) (values : List ℕ) : ℕ → Type 0 where
-  -- 2: kind not 1, 2 or 3
-  no-kind : kind ≢ 1 → kind ≢ 2 → kind ≢ 3 → RequestStated kind polynomial order values 2
+  -- 2: kind not 1, 2, 3 or 4
+  no-kind : kind ≢ 1 → kind ≢ 2 → kind ≢ 3 → kind ≢ 4 → RequestStated kind polynomial order values 2
   -- 3 to 8, by the kind
   of-search : {k : ℕ} → kind ≡ 1 → SearchStated polynomial order values k → RequestStated kind polynomial order values k
   of-check : {k : ℕ} → kind ≡ 2 → CheckStated polynomial order values k → RequestStated kind polynomial order values k
   of-survey : {k : ℕ} → kind ≡ 3 → SurveyStated polynomial order values k → RequestStated kind polynomial order values k
+  -- kind 4: 3 to 7 read it as kind 2
+  of-gates : {k : ℕ} → kind ≡ 4 → CheckStated polynomial order values k → RequestStated kind polynomial order values k
 
 -- a text
 pub data StatedOf (text : List ℕ) : ℕ → Type 0 where

@@ -1,4 +1,4 @@
--- The reference lines of document 01 that are marked P, as one table, with the limits of its last point, its example of a search,
+-- The reference lines of document 01 that are marked P, as one table, with gate lists of document 02, with the limits of its last point, its example of a search,
 -- whole, and lines that tell apart what the others cannot. Assumes nothing.
 use mathlib.Core.Path.{_≡_}
 use mathlib.Core.Logic.{_≢_}
@@ -114,6 +114,32 @@ checks =
     surveys 3 ((0 ∷ 2 ∷ []) ∷ (11 ∷ 15 ∷ 47 ∷ []) ∷ (13 ∷ 15 ∷ 47 ∷ []) ∷ []) ∷
     []
 
+-- gates over 7 (document 02, Two): a matrix that is not its own transpose, whose first output bit joins three inputs; one input alone; a bit that
+-- is always 0. Over 11, order 2: three bits to a word, and an output bit of the second word. The same refusals as of a check; kind 5 is none
+unfoldable pub gateLists : List ReferenceLine
+gateLists =
+    requests 4 7 2 (2 ∷ 3 ∷ 0 ∷ 1 ∷ [])
+    (answer 0 ((0 ∷ 4 ∷ []) ∷ (1 ∷ 2 ∷ []) ∷ (4 ∷ 3 ∷ []) ∷ (0 ∷ 1 ∷ []) ∷ (6 ∷ 2 ∷ []) ∷ (5 ∷ []) ∷ (7 ∷ []) ∷ (2 ∷ []) ∷ (3 ∷ []) ∷ [])) ∷
+    requests 4 7 1 (3 ∷ []) (answer 0 ((0 ∷ 1 ∷ []) ∷ (0 ∷ 1 ∷ []) ∷ (2 ∷ []) ∷ (0 ∷ []) ∷ [])) ∷
+    requests 4 7 1 (0 ∷ []) (answer 0 ((0 ∷ 0 ∷ []) ∷ (999999 ∷ []) ∷ (999999 ∷ []) ∷ [])) ∷
+    requests 4 11 2 (0 ∷ 0 ∷ 1 ∷ 2 ∷ [])
+    (answer 0 ((0 ∷ 4 ∷ []) ∷ (0 ∷ 5 ∷ []) ∷ (1 ∷ 3 ∷ []) ∷ (7 ∷ 5 ∷ []) ∷ (2 ∷ 4 ∷ []) ∷ (999999 ∷ []) ∷ (999999 ∷ []) ∷ (999999 ∷ []) ∷ (6 ∷ []) ∷ (8 ∷ []) ∷ (9 ∷ []) ∷ [])) ∷
+    requests 4 3 1 (0 ∷ []) (answer 3 []) ∷
+    requests 4 7 0 [] (answer 5 []) ∷
+    requests 4 7 9 [] (answer 5 []) ∷
+    requests 4 7 2 (1 ∷ 1 ∷ 1 ∷ []) (answer 6 []) ∷
+    requests 4 7 1 (4 ∷ []) (answer 7 []) ∷
+    requests 5 7 1 (0 ∷ []) (answer 2 []) ∷
+    []
+
+-- a gate list, request text and answer text
+unfoldable pub gateTexts : List ReferenceLine
+gateTexts =
+    texts
+    ("     4     7     1     1" ∷ "     3" ∷ [])
+    ("     0     1" ∷ "     0     1" ∷ "     2" ∷ "     0" ∷ []) ∷
+    []
+
 -- library calls over 19: the inverse of 0; determinants up to size 8; halved products of order 2, 4 or 8
 unfoldable pub refusals : List ReferenceLine
 refusals =
@@ -157,4 +183,4 @@ example =
 
 -- the table
 unfoldable pub referenceLines : List ReferenceLine
-referenceLines = elementLines ++ searches ++ checks ++ refusals ++ limits ++ example
+referenceLines = elementLines ++ searches ++ checks ++ gateLists ++ gateTexts ++ refusals ++ limits ++ example

@@ -1,4 +1,4 @@
-// Kind 2: what is found of a matrix.
+// Kinds 2 and 4: what is found of a matrix, or its gates.
 
 ghost use mathlib.Core.Path.{_≡_};
 ghost use Prim.Native.Nat.{ℕ, _+_, _-_, _*_, _^_, _≤_, _<_};
@@ -8,9 +8,11 @@ ghost use Rattle.matrix.specs.Answers.{isWrongOrder};
 ghost use Rattle.matrix.specs.Steps.Blocks.{framed, filled};
 ghost use Rattle.search.specs.Answer.{someTooLarge};
 ghost use Rattle.text.specs.Reading.{valueAt, valuesFrom};
-ghost use Rattle.answer.specs.Due.{request, checkLines, check, dueTo};
+ghost use Rattle.answer.specs.Due.{request, checkLines, dueTo};
 ghost use Rattle.answer.specs.Steps.Replied.{Replied};
+ghost use Rattle.answer.specs.Steps.Asked.{matrixLines, matrixKind};
 use crate::Reply;
+use crate::gate_list::put_gate_list;
 use crate::write::put_answer;
 use crate::write::refuse;
 use refusal::Outcome;
@@ -46,7 +48,7 @@ fn line_of(part: &[u8], first: usize, n: usize) -> [u8; 8]
 }
 
 // The matrix of order n, its entries line by line, and zeros elsewhere.
-fn matrix_of(part: &[u8], n: usize) -> [[u8; 8]; 8]
+pub fn matrix_of(part: &[u8], n: usize) -> [[u8; 8]; 8]
     requires { ⌜ (n ≤ 8) × ((i j : ℕ) → i < n → j < n → valueAt (now part) (i * n + j) < 256) ⌝ }
     ensures { λ r. ⌜ r ≡ framed n n (λ i j. valueAt (now (part .entry)) (i * n + j)) ⌝ }
 {
@@ -82,10 +84,24 @@ fn wrong_order(n: u32) -> bool
     n == 0 || 8 < n
 }
 
-// The check over a polynomial that is accepted.
-fn check_over(part: &[u8], space: &mut [u8], p: u16, n: u32, count: u32) -> Reply
+// Writes what is asked of the matrix of order n, if it fits: its gates, or what is found of it.
+fn put_asked(part: &[u8], space: &mut [u8], p: u16, n: usize, gates: bool) -> Reply
+    requires { ⌜ Modulus p × (1 ≤ n) × (n ≤ 8) × ((i j : ℕ) → i < n → j < n → valueAt (now part) (i * n + j) < 2 ^ degree p) ⌝ }
+    ensures { λ r. ⌜ Replied (answer 0 (matrixLines gates p n (λ i j. valueAt (now (part .entry)) (i * n + j))))
+        (now (space .entry)) (now (space .exit)) (r .number) (r .length) ⌝ }
+{
+    if gates {
+        put_gate_list(part, space, p, n)
+    } else {
+        put_check(part, space, p, n)
+    }
+}
+
+// What is asked of a matrix over a polynomial that is accepted.
+fn matrix_over(part: &[u8], space: &mut [u8], p: u16, n: u32, count: u32, gates: bool) -> Reply
     requires { ⌜ Modulus p ⌝ }
-    ensures { λ r. ⌜ Replied (dueTo check (request p n (valuesFrom (now (part .entry)) 0 count))) (now (space .entry)) (now (space .exit)) (r .number) (r .length) ⌝ }
+    ensures { λ r. ⌜ Replied (dueTo (matrixKind gates) (request p n (valuesFrom (now (part .entry)) 0 count)))
+        (now (space .entry)) (now (space .exit)) (r .number) (r .length) ⌝ }
 {
     if wrong_order(n) {
         return refuse(space, Refusal::OrderRange);
@@ -96,15 +112,16 @@ fn check_over(part: &[u8], space: &mut [u8], p: u16, n: u32, count: u32) -> Repl
     if some_too_large(p, part, count as usize) {
         return refuse(space, Refusal::ValueRange);
     }
-    put_check(part, space, p, n as usize)
+    put_asked(part, space, p, n as usize, gates)
 }
 
-// The check of a matrix of order n, whose entries stand in the part of a request text that follows line one.
-pub fn check(part: &[u8], space: &mut [u8], p: u32, n: u32, count: u32) -> Reply
-    ensures { λ r. ⌜ Replied (dueTo check (request p n (valuesFrom (now (part .entry)) 0 count))) (now (space .entry)) (now (space .exit)) (r .number) (r .length) ⌝ }
+// The gates, or the check, of a matrix of order n, whose entries stand in the part of a request text that follows line one.
+pub fn of_matrix(part: &[u8], space: &mut [u8], p: u32, n: u32, count: u32, gates: bool) -> Reply
+    ensures { λ r. ⌜ Replied (dueTo (matrixKind gates) (request p n (valuesFrom (now (part .entry)) 0 count)))
+        (now (space .entry)) (now (space .exit)) (r .number) (r .length) ⌝ }
 {
     match field::checked_degree(p) {
         Outcome::Refused(reason) => refuse(space, reason),
-        Outcome::Value(_) => check_over(part, space, p as u16, n, count),
+        Outcome::Value(_) => matrix_over(part, space, p as u16, n, count, gates),
     }
 }

@@ -6,6 +6,7 @@ ghost use Rattle.answer.specs.Answered.{Answered};
 ghost use Rattle.answer.specs.Steps.Replied.{Replied};
 
 mod check;
+mod gate_list;
 mod row;
 mod survey;
 mod write;
@@ -33,8 +34,9 @@ fn answer_kind(
 {
     match kind {
         1 => row::search_row(part, space, polynomial, order, count),
-        2 => check::check(part, space, polynomial, order, count),
+        2 => check::of_matrix(part, space, polynomial, order, count, false),
         3 => survey::survey(part, space, polynomial, order, count),
+        4 => check::of_matrix(part, space, polynomial, order, count, true),
         _ => refuse(space, Refusal::Kind),
     }
 }

@@ -37,13 +37,6 @@ fn read_values(part: &[u8], count: usize) -> [u32; 256]
     values
 }
 
-// An entry as a number of a line.
-fn wide(entry: u8) -> u32
-    ensures { λ r. ⌜ (r ≡ entry) × (r ≤ 255) ⌝ }
-{
-    entry as u32
-}
-
 // The entries of a row as numbers of a line.
 fn widened(row: [u8; 8]) -> [u32; 8]
     ensures { λ r. ⌜ (r ≡ row) × SixDigits r ⌝ }
@@ -51,7 +44,7 @@ fn widened(row: [u8; 8]) -> [u32; 8]
     let mut entries = [0u32; 8];
     let mut i = 0;
     while i < 8 {
-        entries[i] = wide(row[i]);
+        entries[i] = gates::wide(row[i]);
         i += 1;
     }
     entries

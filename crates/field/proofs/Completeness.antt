@@ -61,7 +61,8 @@ passing-complete t (suc n) s k l r e =
     (λ (h : s < k). later k s (t s) (passing t n (suc s)) (passing-complete t n (suc s) k h (omega arith) e))
     (eq-or-lt-of-le l)
 
-member-passing : (t : ℕ → Bool) {k : ℕ} (n s : ℕ) → List·Memᴰ k (passing t n s) → (s ≤ k) × (k < s + n) × (t k ≡ true)
+-- a member passes the test
+pub member-passing : (t : ℕ → Bool) {k : ℕ} (n s : ℕ) → List·Memᴰ k (passing t n s) → (s ≤ k) × (k < s + n) × (t k ≡ true)
 unfolding passing
 member-passing t zero s m = absurd (List·Memᴰ·not-nil m)
 member-passing t {k} (suc n) s m = at (member-passing t n (suc s)) (t s) refl m
@@ -77,7 +78,7 @@ pub data Ascends : ℕ → List ℕ → Type 0 where
   no-more : {low : ℕ} → Ascends low []
   rise : {low k : ℕ} {l : List ℕ} → low ≤ k → Ascends (suc k) l → Ascends low (k ∷ l)
 
-passing-ascends : (t : ℕ → Bool) (n s : ℕ) → Ascends s (passing t n s)
+pub passing-ascends : (t : ℕ → Bool) (n s : ℕ) → Ascends s (passing t n s)
 unfolding passing
 passing-ascends t zero s = no-more
 passing-ascends t (suc n) s = kept (t s) (passing-ascends t n (suc s))
@@ -95,7 +96,7 @@ pub data Different : List ℕ → Type 0 where
   none : Different []
   other : {k : ℕ} {l : List ℕ} → (List·Memᴰ k l → ⊥) → Different l → Different (k ∷ l)
 
-ascends-above : {low k : ℕ} {l : List ℕ} → Ascends low l → List·Memᴰ k l → low ≤ k
+pub ascends-above : {low k : ℕ} {l : List ℕ} → Ascends low l → List·Memᴰ k l → low ≤ k
 ascends-above (rise h a) (List·Memᴰ·head e) = omega arith
 ascends-above (rise h a) (List·Memᴰ·tail m) = omega (arith, ascends-above a m)
 
@@ -103,7 +104,8 @@ ascends-different : {low : ℕ} {l : List ℕ} → Ascends low l → Different l
 ascends-different no-more = none
 ascends-different (rise {k = k} {l = l} h a) = other (λ (m : List·Memᴰ k l). omega (arith, ascends-above a m)) (ascends-different a)
 
-passing-append : (t : ℕ → Bool) (n k s : ℕ) → passing t (n + k) s ≡ passing t n s ++ passing t k (n + s)
+-- a range cut in two
+pub passing-append : (t : ℕ → Bool) (n k s : ℕ) → passing t (n + k) s ≡ passing t n s ++ passing t k (n + s)
 unfolding passing
 passing-append t zero k s = ap₂ (passing t) (zero-add k) (sym (zero-add s))
 passing-append t (suc n) k s =

@@ -11,6 +11,7 @@ use borrow.Author.Tests.{le-leb, eq-eqb, ne-eqb, leb-true, eqb-true, eqb-false, 
 use lib.Dec.{leb, eqb}
 use lib.Pow.{pow-mono}
 use Rattle.field.specs.Polynomial.{_⊕_, _⊗_, degree, rem, Irreducible, isIrreducible, someBelow}
+use Rattle.field.specs.Steps.{everyBelow}
 use Rattle.field.proofs.Sum.{sum-zero-r}
 use Rattle.field.proofs.Ring.{product-comm, product-zero-l, product-one-l}
 use Rattle.field.proofs.Degrees.{HasDegree, has-degree, product-degree, pow-cancel}
@@ -49,6 +50,15 @@ some-there zero test k h e = absurd (not-suc-le-zero h)
 some-there (suc n) test k h e =
     ⊎-elim (λ (f : k ≡ n). ap (λ (b : Bool). b || someBelow n test) (ap test (sym f) ∙ e))
     (λ (l : k < n). ap (λ (b : Bool). test n || b) (some-there n test k l e) ∙ or-true (test n))
+    (eq-or-lt-of-le (le-of-suc-le-suc h))
+
+-- every number below n passes: each of them does
+pub every-at : (n : ℕ) (test : ℕ → Bool) → everyBelow n test ≡ true → (k : ℕ) → k < n → test k ≡ true
+unfolding everyBelow
+every-at zero test e k h = absurd (not-suc-le-zero h)
+every-at (suc n) test e k h =
+    ⊎-elim (λ (f : k ≡ n). ap test f ∙ and-right (everyBelow n test) (test n) e)
+    (λ (l : k < n). every-at n test (and-left (everyBelow n test) (test n) e) k l)
     (eq-or-lt-of-le (le-of-suc-le-suc h))
 
 -- ---- the definition as a test

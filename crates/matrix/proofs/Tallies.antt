@@ -92,9 +92,14 @@ pub total-rows : (p n : ℕ) (f : ℕ → ℕ → ℕ) → total n (λ i. rowCou
 unfolding matrixCount
 total-rows p n f = refl
 
+-- a matrix counts at most 4,032
+pub matrixCount-le : (p n : ℕ) (f : ℕ → ℕ → ℕ) → Modulus p → n ≤ 8 → matrixCount p n f ≤ 4032
+matrixCount-le p n f h l =
+    rw (← total-rows p n f) (omega (arith, total-le n 504 (λ i. rowCount p n (f i)) (λ i. rowCount-le p n (f i) h l)))
+
 -- ---- the places of a row's elements
 
-total-sum : (n : ℕ) (f : ℕ → ℕ) → total n f ≡ sum Naturals n f
+pub total-sum : (n : ℕ) (f : ℕ → ℕ) → total n f ≡ sum Naturals n f
 unfolding total sum
 total-sum zero f = refl
 total-sum (suc n) f = ap (λ (s : ℕ). s + f n) (total-sum n f)

@@ -1,6 +1,6 @@
 -- Laws for whoever writes an answer: a line behind other lines, the refusal line, and that every byte of a text fits a byte.
 -- Assumes nothing.
-use mathlib.Core.Path.{_≡_}
+use mathlib.Core.Path.{_≡_, refl, ap, _∙_}
 use mathlib.Core.Bool.{Bool, true, false, cond, _||_}
 use mathlib.Core.List.{List, [], _∷_, _++_, append-assoc, append-nil}
 use Prim.Native.Nat.{ℕ, zero, suc, _+_, _/_, _%_, _<_}
@@ -12,11 +12,16 @@ use Rattle.text.specs.Writing.{Put}
 use Rattle.text.proofs.Places.{put-join}
 use Rattle.text.proofs.Lengths.{length-line}
 
+-- lines behind others
+pub answer-append : (lines more : List (List ℕ)) → answerText (lines ++ more) ≡ answerText lines ++ answerText more
+unfolding answerText
+answer-append [] more = refl
+answer-append (l ∷ lines) more = rw (answer-append lines more, append-assoc)
+
 -- one line more, behind the others
 pub answer-more : (lines : List (List ℕ)) (line : List ℕ) → answerText (lines ++ (line ∷ [])) ≡ answerText lines ++ lineText line
 unfolding answerText
-answer-more [] line = append-nil (lineText line)
-answer-more (l ∷ lines) line = rw (answer-more lines line, append-assoc)
+answer-more lines line = answer-append lines (line ∷ []) ∙ ap (λ (l : List ℕ). answerText lines ++ l) (append-nil (lineText line))
 
 pub put-line-more : {l l′ l″ : List ℕ} {at next last : ℕ} (lines : List (List ℕ)) (line : List ℕ)
     → Put l l′ at (answerText lines) next → Put l′ l″ next (lineText line) last → Put l l″ at (answerText (lines ++ (line ∷ []))) last

@@ -1,14 +1,15 @@
--- `answer::check::check` meets its contract: what the polynomial is refused for, the request is. Assumes nothing.
+-- `answer::check::of_matrix` meets its contract: what the polynomial is refused for, the request is. Assumes nothing.
 use mathlib.Core.List.{[]}
 use Rattle.refusal.proofs.Faults.{outcome-refused}
 use Rattle.field.specs.Polynomial.{Modulus}
 use Rattle.field.specs.Faults.{polynomialFaults}
 use Rattle.field.proofs.Calls.{degree-modulus, modulus-fits}
-use Rattle.answer.specs.Due.{checkFaults, check, dueTo}
+use Rattle.answer.specs.Due.{checkFaults, dueTo}
+use Rattle.answer.specs.Steps.Asked.{matrixKind}
 use Rattle.answer.proofs.Replies.{replied-as}
 use borrow.Author.Needs.{needs}
-use Rattle.answer.proofs.check.check.Statement.{statement}
-use Rattle.answer.proofs.check.check.Tie as tie
+use Rattle.answer.proofs.check.of_matrix.Statement.{statement}
+use Rattle.answer.proofs.check.of_matrix.Tie as tie
 
 checked-degree-requires : tie.Need-checked-degree-requires
 checked-degree-requires c κs = search needs
@@ -27,17 +28,17 @@ modulus : (c : tie.After-enum-told) → Modulus (c .before .before .before .befo
 modulus c =
     degree-modulus _ (c .before .before .before .before .before .args .p) _ (c .before .before .checked-degree .ensures) (c .enum-told .given .1)
 
-cast-check-over : tie.Need-cast-check-over
-cast-check-over c = record { fits = modulus-fits (modulus (c .before)) }
+cast-matrix-over : tie.Need-cast-matrix-over
+cast-matrix-over c = record { fits = modulus-fits (modulus (c .before)) }
 
-check-over-requires : tie.Need-check-over-requires
-check-over-requires c κs = modulus (c .before)
+matrix-over-requires : tie.Need-matrix-over-requires
+matrix-over-requires c κs = modulus (c .before)
 
 same-length : tie.Need-same-length
 same-length c = search needs
 
 returns : tie.Need-returns
-unfolding dueTo check checkFaults
+unfolding dueTo matrixKind checkFaults
 returns c =
     let called = c .before .before in
     let told = called .before .before .before in
@@ -49,18 +50,18 @@ same-length-2 : tie.Need-same-length-2
 same-length-2 c = search needs
 
 returns-2 : tie.Need-returns-2
-returns-2 c = c .before .before .check-over .ensures
+returns-2 c = c .before .before .matrix-over .ensures
 
-pub check-spec : {M : Type 1} → statement M
-check-spec =
+pub of-matrix-spec : {M : Type 1} → statement M
+of-matrix-spec =
     tie.close
     (tie.spec
     checked-degree-requires
     enum-known-reason
     refuse-requires
     enum-told
-    cast-check-over
-    check-over-requires
+    cast-matrix-over
+    matrix-over-requires
     same-length
     returns
     same-length-2

@@ -1,4 +1,4 @@
--- `answer::check::check_over` meets its contract: the first fault of the list is told. Assumes nothing.
+-- `answer::check::matrix_over` meets its contract: the first fault of the list is told. Assumes nothing.
 use mathlib.Core.Path.{_≡_, refl, sym, ap, _∙_}
 use mathlib.Core.Bool.{false, not}
 use mathlib.Core.List.{List, []}
@@ -15,13 +15,15 @@ use Rattle.field.proofs.Calls.{modulus-passed}
 use Rattle.matrix.specs.Answers.{isWrongOrder}
 use Rattle.search.specs.Answer.{someTooLarge}
 use Rattle.text.specs.Reading.{valuesFrom}
-use Rattle.answer.specs.Due.{checkFaults, check, dueTo}
+use Rattle.answer.specs.Due.{checkFaults, dueTo}
+use Rattle.answer.specs.Steps.Asked.{matrixLines, matrixKind}
 use Rattle.answer.proofs.Replies.{replied-as}
 use Rattle.matrix.proofs.CallFaults.{order-passes}
-use Rattle.answer.proofs.Values.{count-wrong, count-right, value-small, place-below, check-read}
+use Rattle.answer.proofs.Values.{count-wrong, count-right, value-small, place-below}
+use Rattle.answer.proofs.GateLines.{lines-read}
 use borrow.Author.Needs.{needs}
-use Rattle.answer.proofs.check.check_over.Statement.{statement}
-use Rattle.answer.proofs.check.check_over.Tie as tie
+use Rattle.answer.proofs.check.matrix_over.Statement.{statement}
+use Rattle.answer.proofs.check.matrix_over.Tie as tie
 
 -- the values
 abbrev values : tie.Start → List ℕ
@@ -47,7 +49,7 @@ same-length : tie.Need-same-length
 same-length c = search needs
 
 returns : tie.Need-returns
-unfolding dueTo check checkFaults
+unfolding dueTo matrixKind checkFaults
 returns c =
     let tested = c .before .before .before .before in
     let s = tested .before .before .before .before in
@@ -68,7 +70,7 @@ same-length-2 : tie.Need-same-length-2
 same-length-2 c = search needs
 
 returns-2 : tie.Need-returns-2
-unfolding dueTo check checkFaults
+unfolding dueTo matrixKind checkFaults
 returns-2 c =
     let tested = c .before .before .before .before in
     let s = tested .before .before .before .before .before in
@@ -89,7 +91,7 @@ same-length-3 : tie.Need-same-length-3
 same-length-3 c = search needs
 
 returns-3 : tie.Need-returns-3
-unfolding dueTo check checkFaults
+unfolding dueTo matrixKind checkFaults
 returns-3 c =
     let tested = c .before .before .before .before in
     let counted = tested .before .before in
@@ -101,8 +103,8 @@ returns-3 c =
     ∙ modulus-passed [] _ (s .args .p) _ (s .pre))
     (c .before .before .refuse3 .ensures)
 
-put-check-requires : tie.Need-put-check-requires
-put-check-requires c κs =
+put-asked-requires : tie.Need-put-asked-requires
+put-asked-requires c κs =
     let counted = c .before .before .before in
     let s = counted .before .before .before .before .before in
     let n = s .args .n in
@@ -117,24 +119,24 @@ same-length-4 : tie.Need-same-length-4
 same-length-4 c = search needs
 
 returns-4 : tie.Need-returns-4
-unfolding dueTo check checkFaults
+unfolding dueTo matrixKind checkFaults
 returns-4 c =
     let tested = c .before .before .before .before in
     let counted = tested .before .before in
     let s = counted .before .before .before .before .before in
     let a = s .args in
     replied-as
-    (ap (λ (l : List (List ℕ)). answer 0 l) (check-read (a .p) (now (a .part)) (a .n) (a .count) (counted .if2 .left))
+    (ap (λ (l : List (List ℕ)). answer 0 l) (lines-read (a .gates) (a .p) (now (a .part)) (a .n) (a .count) (s .pre) (counted .if2 .left))
     ∙ after-empty [] _
     ∙ after-left [] _ 8 false [] refl
     ∙ after-left [] _ 7 _ _ (large tested)
     ∙ after-left [] _ 6 _ _ (count counted)
     ∙ after-left [] _ 5 _ _ (order (counted .before))
     ∙ modulus-passed [] _ (a .p) _ (s .pre))
-    (c .before .before .put-check .ensures)
+    (c .before .before .put-asked .ensures)
 
-pub check-over-spec : {M : Type 1} → statement M
-check-over-spec =
+pub matrix-over-spec : {M : Type 1} → statement M
+matrix-over-spec =
     tie.close
     (tie.spec
     wrong-order-requires
@@ -149,6 +151,6 @@ check-over-spec =
     refuse-requires-3
     same-length-3
     returns-3
-    put-check-requires
+    put-asked-requires
     same-length-4
     returns-4)
