@@ -1,9 +1,13 @@
 #!/usr/bin/env python3
 """Tests of the project's scripts: ./rowfind, ./ask, those of second/, bench/ and bindings/, and the gate's own counting. A stand-in
 for rt, which "proves" in a moment, shows what ./rowfind does while it builds; the gate itself builds with the real one."""
+import functools
 import importlib.machinery
 import importlib.util
+import operator
 import os
+import random
+import re
 import shutil
 import signal
 import subprocess
@@ -20,6 +24,7 @@ sys.path[:0] = [os.path.join(ROOT, "second"), os.path.join(ROOT, "bench")]
 import plot
 import reference
 import rowtext
+import samples
 
 for name in ("ROWFIND", "CALLS"):
     os.environ.pop(name, None)  # what is tested is what is here
@@ -330,6 +335,10 @@ class Ask(Place):
     def test_wrong_use(self):
         for words in ("", "find", "search", "search 19", "survey", "survey 4 4", "survey -1", "survey 1e3"):
             self.refused(2, words.split())
+        for words in ("gates", "gates 7", "gates --verilog", "gates --verilog 7", "gates --verilog --verilog 7 1 3"):
+            self.refused(2, words.split())
+        for words in ("gates 7 --verilog 1 3", "gates --vhdl 7 1 3", "check --verilog 7 1 3", "--verilog 7 1 3"):
+            self.refused(2, words.split())
         for word in ("1000000", "9" * 5000, "0x" + "f" * 5000, "x" * 5000, "1\n2", "\udcff"):
             self.assertLess(len(self.refused(2, ["survey", word])), 120)
         self.refused(2, ["search", "19", "4"] + ["1"] * 672)
@@ -386,6 +395,215 @@ class Ask(Place):
             os.remove(sleeper)
 
 
+class Verilog:
+    """A module of the few forms that ./ask writes, read strictly: ValueError at anything else. Each wire is declared once, each
+    wire and each output bit is assigned once, and only what is an input bit or assigned already is read."""
+
+    TEXT = re.compile(r"((?:// .*\n)+)module mixing_layer \(\n((?:.*\n)*?)\);\n((?:.*\n)*)endmodule\n")
+    PORT = re.compile(r"    (input|output) \[([0-9]+):0\] ([xy])([0-9]+)(,?)")
+    WIRES = re.compile(r"    wire (g[0-9]+(?:, g[0-9]+)*);")
+    BIT = r"x[0-9]+\[[0-9]+\]|g[0-9]+"
+    GATE = re.compile(rf"    assign (g[0-9]+) = ({BIT}) \^ ({BIT});")
+    OUTPUT = re.compile(rf"    assign (y[0-9]+\[[0-9]+\]) = ({BIT}|1'b0);")
+
+    def __init__(self, text):
+        parts = self.matched(self.TEXT, text)
+        self.head, ports, body = parts[0], parts[1].splitlines(), parts[2].splitlines()
+        self.read_ports([self.matched(self.PORT, port) for port in ports])
+        self.wires, self.gates, self.carriers, self.known = [], {}, {}, set(self.bits("x"))
+        for line in body:
+            self.read_line(line)
+        if list(self.gates) != self.wires or sorted(self.carriers) != sorted(self.bits("y")):
+            raise ValueError("the wires that are declared, or the output bits, are not those that are assigned")
+
+    @staticmethod
+    def matched(pattern, text):
+        found = pattern.fullmatch(text)
+        if not found:
+            raise ValueError(f"not of the subset: {text[:80]!r}")
+        return found.groups()
+
+    def read_ports(self, ports):
+        n = len(ports) // 2
+        expected = [("input", "x", k) for k in range(n)] + [("output", "y", k) for k in range(n)]
+        if [(way, letter, int(k)) for way, _, letter, k, _ in ports] != expected or len({port[1] for port in ports}) != 1:
+            raise ValueError("other ports than x0, x1, .. and y0, y1, .. of one width")
+        if [port[4] for port in ports] != [","] * (len(ports) - 1) + [""]:
+            raise ValueError("commas between the ports")
+        self.order, self.degree = n, int(ports[0][1]) + 1
+
+    def bits(self, letter):
+        return [f"{letter}{i}[{j}]" for i in range(self.order) for j in range(self.degree)]
+
+    def read_line(self, line):
+        if self.WIRES.fullmatch(line):
+            self.wires += self.matched(self.WIRES, line)[0].split(", ")
+        elif self.GATE.fullmatch(line):
+            name, *joined = self.matched(self.GATE, line)
+            self.assign(self.gates, name, joined, self.known)
+            self.known.add(name)
+        else:
+            name, carrier = self.matched(self.OUTPUT, line)
+            self.assign(self.carriers, name, [carrier], self.known | {"1'b0"})
+
+    def assign(self, place, name, sources, known):
+        if name in place or not known.issuperset(sources):
+            raise ValueError(f"{name} is assigned twice, or reads what is not there")
+        place[name] = sources
+
+    def output(self, words):
+        """The output words for an input."""
+        value = {name: words[k // self.degree] >> k % self.degree & 1 for k, name in enumerate(self.bits("x"))}
+        value["1'b0"] = 0
+        for name, (one, other) in self.gates.items():
+            value[name] = value[one] ^ value[other]
+        bits = [value[self.carriers[name][0]] for name in self.bits("y")]
+        return [sum(bit << j for j, bit in enumerate(bits[k : k + self.degree])) for k in range(0, len(bits), self.degree)]
+
+
+def product(p, n, entries, words):
+    """The matrix product, by definition."""
+    terms = lambda i: [rowtext.field_product(p, a, x) for a, x in zip(entries[n * i : n * i + n], words)]
+    return [functools.reduce(operator.xor, terms(i)) for i in range(n)]
+
+
+class Gates(Place):
+    """./ask gates, by the second program, whose lists are those of ./rowfind, as second/compare shows."""
+
+    FIPS = (283, 4, rowtext.circulant([2, 3, 1, 1]))
+    HEAVIEST = (395, 8, [251] * 64)
+    FEW = [(7, 2, [2, 3, 0, 1]), (7, 1, [3]), (7, 1, [0]), (19, 4, rowtext.hadamard([1, 4, 9, 13])), FIPS]
+
+    def asked(self, words, rowfind=rowtext.SECOND, **settings):
+        return run([os.path.join(ROOT, "ask"), "gates", *words], env=dict(os.environ, ROWFIND=rowfind), **settings)
+
+    def module(self, p, n, entries):
+        """The text of a module."""
+        status, shown, said = self.asked(["--verilog", *map(str, [p, n, *entries])])
+        self.assertEqual((status, said), (0, ""))
+        return shown
+
+    def matrices(self):
+        """Matrices of every degree and order, sparse and dense."""
+        dice = random.Random(1)
+        yield from self.FEW
+        for k, percent in enumerate(range(0, 101, 5)):
+            p, n = dice.choice(samples.OF_DEGREE[2 + k % 7]), 1 + k % 8
+            yield p, n, samples.of_density(dice, p, n, percent)
+        yield self.HEAVIEST
+
+    def inputs(self, p, n):
+        dice = random.Random(2)
+        return [[dice.randrange(1 << rowtext.degree(p)) for _ in range(n)] for _ in range(20)]
+
+    def test_a_list_in_words(self):
+        status, shown, said = self.asked("7 2 2 3 0 1".split())
+        self.assertEqual((status, said), (0, ""))
+        answer = shown.split("answer\n")[1].splitlines()
+        words = [line.split("| ")[1] for line in answer]
+        self.assertEqual([line.split("  |")[0].rstrip() for line in answer], reference.TWO_LINES_GATES.decode().splitlines())
+        self.assertEqual(words[0], "two-input XOR gates: 4")
+        self.assertEqual(words[1:3], ["g4 joins x0[1] and x1[0]", "g5 joins g4 and x1[1]"])
+        carriers = {"y0[0]": "g5", "y0[1]": "g7", "y1[0]": "x1[0]", "y1[1]": "x1[1]"}
+        self.assertEqual(words[5:], [f"{output} is carried by {by}" for output, by in carriers.items()])
+        self.assertIn("y0[1] is always 0", self.asked("7 1 0".split())[1])
+
+    def test_verilog_gives_the_product(self):
+        for p, n, entries in self.matrices():
+            module = Verilog(self.module(p, n, entries))
+            self.assertEqual((module.order, module.degree), (n, rowtext.degree(p)))
+            for words in self.inputs(p, n):
+                self.assertEqual(module.output(words), product(p, n, entries, words), (p, n, entries, words))
+
+    def test_the_head_names_the_matrix(self):
+        head = Verilog(self.module(7, 2, [2, 3, 0, 1])).head
+        self.assertIn("over the polynomial 7, M of order 2: 2 3 / 0 1\n", head)
+        self.assertIn("XOR gates: 4\n", head)
+        self.assertEqual(len(Verilog(self.module(*self.FIPS)).gates), 152)
+
+    def test_the_reader_of_verilog_is_strict(self):
+        text = self.module(7, 2, [2, 3, 0, 1])
+        changes = (
+            ("g4 =", "g3 ="), ("^", "&"), ("x1[1]", "x1[2]"), ("x0[1] ^", "x2[0] ^"), ("= g5", "= g8"), ("g4 ^", "g5 ^"),
+            ("y0[0]", "y0[1]"), ("    assign y1[1] = x1[1];\n", ""), ("    wire", "    reg"), ("endmodule", "endmodule;"),
+            ("g4, g5", "g4, g4, g5"), ("g4, g5", "g4, g5, g9"), ("input [1:0] x1", "input [2:0] x1"), ("    assign g4", "assign g4"),
+        )
+        for old, new in changes:
+            self.assertIn(old, text)
+            with self.assertRaises(ValueError, msg=(old, new)):
+                Verilog(text.replace(old, new, 1))
+
+    @unittest.skipUnless(shutil.which("iverilog") and shutil.which("vvp"), "iverilog is not installed")
+    def test_a_simulator_gives_the_product(self):
+        for p, n, entries in [*self.FEW, self.HEAVIEST]:
+            inputs, m = self.inputs(p, n), rowtext.degree(p)
+            write(os.path.join(self.place, "layer.v"), self.module(p, n, entries))
+            write(os.path.join(self.place, "bench.v"), self.bench(n, m, inputs))
+            built = run(["iverilog", "-Wall", "-g2001", "-o", "bench", "layer.v", "bench.v"], cwd=self.place)
+            self.assertEqual(built, (0, "", ""))
+            shown = run(["vvp", "-n", "bench"], cwd=self.place)[1]
+            told = [[int(word) for word in line.split()] for line in shown.splitlines()]
+            self.assertEqual(told, [product(p, n, entries, words) for words in inputs])
+
+    @unittest.skipUnless(all(map(shutil.which, ("iverilog", "vvp", "yosys"))), "iverilog or yosys is not installed")
+    def test_what_the_readme_tells_a_layout_team(self):
+        page = read(os.path.join(ROOT, "README.md"))
+        commands = re.search(r"```\n(\./ask gates --verilog 283 .*?)```", page, re.DOTALL).group(1)
+        environment = dict(os.environ, ROWFIND=rowtext.SECOND)
+        self.assertEqual(run(["bash", "-ec", commands], env=environment, cwd=ROOT), (0, "0 differences\n", ""))
+
+    def bench(self, n, m, inputs):
+        """A test bench that prints the output words for each input."""
+        ports = ", ".join(f".{word}({word})" for k in range(n) for word in (f"x{k}", f"y{k}"))
+        shown = f'#1 $display("{" ".join(["%0d"] * n)}", {", ".join(f"y{k}" for k in range(n))});'
+        steps = [" ".join(f"x{k} = {word};" for k, word in enumerate(words)) + " " + shown for words in inputs]
+        declared = [f"reg [{m - 1}:0] x{k}; wire [{m - 1}:0] y{k};" for k in range(n)]
+        head = ["module bench;", *declared, f"mixing_layer layer ({ports});", "initial begin"]
+        return "\n".join([*head, *steps, "end", "endmodule", ""])
+
+    def test_a_refusal(self):
+        for words, number in (("3 1 1", 3), ("21 1 1", 4), ("7 9 1", 5), ("7 2 1", 6), ("7 1 4", 7)):
+            status, shown, said = self.asked(words.split())
+            self.assertEqual((status, said), (1, ""))
+            self.assertIn(f"refused with {number}: {rowtext.MEANINGS[number]}", shown)
+            refused = f"ask: refused with {number}: {rowtext.MEANINGS[number]}\n"
+            self.assertEqual(self.asked(["--verilog", *words.split()]), (1, "", refused))
+
+    def test_what_is_no_gate_list(self):
+        text = reference.TWO_LINES_GATES.decode()
+        changes = (
+            ("     0     4", "     0     3"), ("     0     4", "     0     5"), ("     0     4\n", "     0     4     0\n"),
+            ("     1     2", "     2     2"), ("     1     2", "     1     2     3"), ("     4     3", "     5     3"),
+            ("     4     3", "     4     8"), ("     4     3\n", ""), ("     7\n", "     8\n"), ("     7\n", "999998\n"),
+            ("     7\n", ""), ("     7\n", "     7     2\n"), ("     7\n", "    07\n"), (text, text + "     1\n"),
+            (text, text[:-1]), (text, ""), (text, "     0     0\n"), (text, "     2     4\n"), (text, "    10\n"),
+        )
+        program = os.path.join(self.place, "program")
+        for old, new in changes:
+            self.assertIn(old, text)
+            write(program, f"#!/usr/bin/env bash\ncat >/dev/null\nprintf '{text.replace(old, new, 1)}'\n")
+            for words in ("7 2 2 3 0 1", "--verilog 7 2 2 3 0 1"):
+                status, shown, said = self.asked(words.split(), program)
+                self.assertEqual((status, said.count("\n"), shown[:7] in ("", "request")), (3, 1, True), (old, new))
+                self.assertIn("something else than an answer text", said)
+                self.assertTrue(shown == "" or "--verilog" not in words)
+
+    def test_a_list_of_another_matrix_is_none(self):
+        program = os.path.join(self.place, "program")
+        write(program, f"#!/usr/bin/env bash\nprintf '{reference.TWO_LINES_GATES.decode()}'\n")
+        for words in ("7 1 1", "11 2 2 3 0 1", "7 4 " + "1 " * 16, "0 2 2 3 0 1", "1 2 1 1 1 1", "7 0"):
+            self.assertEqual(self.asked(words.split(), program)[0], 3, words)
+
+    def test_a_lost_module(self):
+        with open("/dev/full", "w", encoding="utf8") as full:
+            status, _, said = self.asked("--verilog 7 1 3".split(), stdout=full)
+        self.assertEqual((status, said.count("\n")), (4, 1))
+
+    def test_the_proved_program_gives_the_same_module(self):
+        words = [os.path.join(ROOT, "ask"), "gates", "--verilog", *map(str, [self.FIPS[0], self.FIPS[1], *self.FIPS[2]])]
+        self.assertEqual(run(words, timeout=600)[:2], (0, self.module(*self.FIPS)))
+
+
 class Comparison(Place):
     """The scripts that compare."""
 
@@ -434,6 +652,37 @@ class Comparison(Place):
             with opened as source:
                 done = subprocess.run(["cat"], stdout=subprocess.PIPE, stderr=subprocess.PIPE, check=False, **source)
             self.assertEqual(done.returncode, 1, done.stderr)
+
+    def test_a_wrong_gate_list_is_seen(self):
+        compare, right = load("second/compare"), reference.TWO_LINES_GATES
+        inputs = compare.inputs_of(random.Random(1), 7, 2)
+        outputs = [product(7, 2, [2, 3, 0, 1], words) for words in inputs]
+        self.assertEqual(compare.list_fault(7, 2, right, inputs, outputs), "")
+        changes = (
+            (b"     1     2", b"     0     2"), (b"     4     3", b"     4     4"), (b"     5\n", b"     4\n"), (b"     7\n", b"999999\n"),
+            (b"     0     4", b"     0     5"), (right, b"     9\n"), (right, b"ended by signal 9"),
+        )
+        for old, new in changes:
+            self.assertIn(old, right)
+            self.assertTrue(compare.list_fault(7, 2, right.replace(old, new, 1), inputs, outputs), (old, new))
+
+    def test_products_are_those_of_the_definition(self):
+        compare, dice = load("second/compare"), random.Random(3)
+        for p, n in ((7, 1), (19, 3), (67, 5), (283, 8)):
+            entries, inputs = samples.dense(dice, p, n), compare.inputs_of(dice, p, n)
+            told = compare.second_products([compare.product_record(p, n, entries, words) for words in inputs])
+            self.assertEqual([list(words[:n]) for words in told], [product(p, n, entries, words) for words in inputs])
+
+    def test_gates_and_check_of_a_matrix_are_held_together(self):
+        compare, entries = load("second/compare"), [2, 3, 0, 1]
+        check, gates = (rowtext.request(kind, 7, 2, entries) for kind in (rowtext.CHECK, rowtext.GATES))
+        counted = rowtext.line([0, 2, 0, 0, 4])
+        for of_check, of_gates, differ in (
+            (counted, reference.TWO_LINES_GATES, 0), (rowtext.line([7]), rowtext.line([7]), 0),
+            (rowtext.line([0, 2, 0, 0, 5]), reference.TWO_LINES_GATES, 1), (rowtext.line([7]), rowtext.line([6]), 1),
+            (counted, rowtext.line([7]), 1), (rowtext.line([7]), reference.TWO_LINES_GATES, 1), (counted, counted, 1),
+        ):
+            self.assertEqual(len(list(compare.differing_kinds({check: of_check, gates: of_gates}))), differ, (of_check, of_gates))
 
     def test_a_stale_page_of_sources_is_seen(self):
         sources = load("second/sources")
@@ -504,6 +753,16 @@ class Bindings(Place):
             self.assertEqual((status, said.count("\n")), (1, 1), said)
             self.assertIn("the command rt", said)
             self.assertIn("run 'rt staticlib answer' first", said)
+
+    def test_the_longest_answer_is_one_figure(self):
+        places = {
+            "include/rowfind.h": r"#define ROWFIND_LONGEST_ANSWER ([0-9]+)\n",
+            "bindings/rust/src/lib.rs": r"LONGEST_ANSWER: usize = ([0-9_]+);",
+            "bindings/python/rowfind.py": r"\nLONGEST_ANSWER = ([0-9]+) ",
+        }
+        found = [re.findall(pattern, read(os.path.join(ROOT, path))) for path, pattern in places.items()]
+        self.assertEqual([len(figures) for figures in found], [1] * len(places))
+        self.assertEqual(len({figures[0].replace("_", "") for figures in found}), 1, found)
 
     def test_cargo_names_the_missing_library(self):
         manifest = os.path.join(self.project, "bindings", "rust", "Cargo.toml")

@@ -1,4 +1,5 @@
-/* The row finder as a library: one request text to one answer text. The formats and numbers are those of the README.
+/* The row finder as a library: one request text to one answer text. The formats and numbers are those of the README. The kinds of
+ * requests: 1 search, 2 check, 3 survey, 4 gates.
  *
  * Threads: every call may be made from any thread, and from several at once. The library has no state: a call reads its
  * request, writes to the space and the length that it is lent, and uses its own stack; it takes no memory from elsewhere. */
@@ -16,6 +17,10 @@ extern "C" {
  * every call and has some left for its own. Both are measured, not proved: bindings/c/test holds the library to them. */
 #define ROWFIND_STACK (96 * 1024)
 
+/* No answer has more bytes, so a space of this length is never too short. Gate lists (kind 4) are the longest answers; those of
+ * the other kinds have at most 583. */
+#define ROWFIND_LONGEST_ANSWER 52877
+
 /* Answers the request in the lent space and stores a length at *length.
  *
  * Returns 0 if the request is accepted: *length is the length of the answer, which stands at the start of the space.
@@ -25,7 +30,7 @@ extern "C" {
  * The bytes of the space behind what is written keep their contents.
  *
  *  1  the text is not of the form, is too long, or has not as many values as its count says
- *  2  the kind is not 1, 2 or 3
+ *  2  the kind is not 1, 2, 3 or 4
  *  3  the polynomial is not in 4 to 511; for a survey, the degree is not in 2 to 8
  *  4  the polynomial is reducible
  *  5  the order is not allowed for the kind

@@ -1,5 +1,6 @@
-"""The reference lines of document 01, with the counts of request One, as whole request and answer texts; a text for each refusal."""
-from rowtext import CHECK, SEARCH, SURVEY, circulant, hadamard, line, request
+"""The reference lines of document 01, with the counts of request One and the gates of request Two, as whole request and answer
+texts; a text for each refusal."""
+from rowtext import ALWAYS_ZERO, CHECK, GATES, SEARCH, SURVEY, circulant, hadamard, line, request
 
 WORKED_REQUEST = b"     1    19     4     4\n     1     4     9    13\n"
 WORKED_ANSWER = b"     0     6    18    72\n     1     4     9    13\n"
@@ -54,6 +55,67 @@ def survey_lines():
     yield "survey of degree 2", request(SURVEY, 2, 0, []), line([0, 1]) + line([7, 2, 2])
 
 
+TWO_LINES = request(GATES, 7, 2, [2, 3, 0, 1])
+TWO_LINES_GATES = b"""     0     4
+     1     2
+     4     3
+     0     1
+     6     2
+     5
+     7
+     2
+     3
+"""
+
+# Over 19, the input bits that each bit of an element's product joins, from x^4 = x + 1.
+JOINED_OVER_19 = {
+    1: [[0], [1], [2], [3]],
+    4: [[2], [2, 3], [0, 3], [1]],
+    9: [[0, 1], [2], [3], [0]],
+    13: [[0, 1, 2], [3], [0], [0, 1]],
+}
+
+
+def gate_text(inputs, joined):
+    """A gate list, written from the input bits that each output bit joins, the lowest first."""
+    gates, carriers = [], []
+    for bits in joined:
+        carrier = bits[0] if bits else ALWAYS_ZERO
+        for bit in bits[1:]:
+            gates.append([carrier, bit])
+            carrier = inputs + len(gates) - 1
+        carriers.append([carrier])
+    return b"".join(map(line, [[0, len(gates)], *gates, *carriers]))
+
+
+def fips_joined():
+    """FIPS 197, MixColumns: an output word is 2 x0 + 3 x1 + x2 + x3, the input words turned on from word to word, and the doubled
+    byte takes bit 7 into the bits 0, 1, 3 and 4."""
+    for i in range(4):
+        for bit in range(8):
+            words = [[bit - 1] * (bit > 0) + [7] * (bit in (0, 1, 3, 4))]
+            words += [sorted(words[0] + [bit]), [bit], [bit]]
+            yield sorted((i + turn) % 4 * 8 + b for turn, bits in enumerate(words) for b in bits)
+
+
+def gate_lines():
+    yield "gates of 2 3 / 0 1 over 7", TWO_LINES, TWO_LINES_GATES
+    yield "gates of 3 over 7", request(GATES, 7, 1, [3]), line([0, 1]) + line([0, 1]) + line([2]) + line([0])
+    yield "gates of 0 over 7", request(GATES, 7, 1, [0]), line([0, 0]) + 2 * line([999999])
+    for p in (7, 11, 19, 37, 67, 131, 283):
+        for n in (1, 2, 5, 8):
+            bits = n * (p.bit_length() - 1)
+            identity = request(GATES, p, n, [int(i == j) for i in range(n) for j in range(n)])
+            yield f"gates of the identity of order {n} over {p}", identity, gate_text(bits, [[k] for k in range(bits)])
+            yield f"gates of zeros of order {n} over {p}", request(GATES, p, n, [0] * (n * n)), gate_text(bits, [[]] * bits)
+            ones = [list(range(k % (bits // n), bits, bits // n)) for k in range(bits)]
+            yield f"gates of ones of order {n} over {p}", request(GATES, p, n, [1] * (n * n)), gate_text(bits, ones)
+    row = [1, 4, 9, 13]
+    joined = [[4 * j + b for j in range(4) for b in JOINED_OVER_19[row[i ^ j]][bit]] for i in range(4) for bit in range(4)]
+    yield "gates of Hadamard 1 4 9 13", request(GATES, 19, 4, hadamard(row)), gate_text(16, joined)
+    yield "gates of the FIPS 197 matrix", request(GATES, 283, 4, circulant([2, 3, 1, 1])), gate_text(32, fips_joined())
+
+
 def limit_lines():
     """Limits of polynomial, order and count."""
     for polynomial, number in [(3, 3), (7, 9), (21, 4), (511, 4), (512, 3)]:
@@ -68,7 +130,7 @@ def limit_lines():
 
 def reference_lines():
     """(name, request text, answer text)"""
-    for part in (search_lines, check_lines, zero_lines, survey_lines, field_lines, limit_lines):
+    for part in (search_lines, check_lines, zero_lines, survey_lines, field_lines, gate_lines, limit_lines):
         yield from part()
 
 
@@ -84,7 +146,7 @@ def refusal_lines():
     yield "672 values", r(SEARCH, 19, 4, [1] * 672), 1
     yield "1 before 2 to 8", r(9, 3, 9, [0, 0, 999999], count=2), 1
     yield "kind 0", r(0, 19, 4, [1]), 2
-    yield "kind 4", r(4, 19, 4, [1]), 2
+    yield "kind 8", r(8, 19, 4, [1]), 2
     yield "2 before 3 to 8", r(999999, 512, 9, [0, 0, 999999]), 2
     yield "polynomial 3", r(CHECK, 3, 1, [0]), 3
     yield "polynomial 512", r(CHECK, 512, 1, [0]), 3
@@ -112,3 +174,28 @@ def refusal_lines():
     yield "8 before 9", r(SEARCH, 19, 4, [1, 1]), 8
     yield "no row at order 4", r(SEARCH, 19, 4, [1, 2, 4, 8]), 9
     yield "no row at order 8", r(SEARCH, 19, 8, [1, 2, 3, 4, 5, 6, 7]), 9
+    yield from gate_refusals()
+
+
+def gate_refusals():
+    """Kind 4: each number alone, the first fault of several, and where a number begins and ends."""
+    r = request
+    yield "gates without a line end", TWO_LINES[:-1], 1
+    yield "gates with an entry missing", r(GATES, 7, 2, [2, 3, 0], count=4), 1
+    yield "1 before 3 to 7 in gates", r(GATES, 3, 9, [999999, 0], count=1), 1
+    yield "gates over 3", r(GATES, 3, 1, [0]), 3
+    yield "gates over 512", r(GATES, 512, 1, [0]), 3
+    yield "3 before 5 to 7 in gates", r(GATES, 3, 9, [999999]), 3
+    yield "gates over 4", r(GATES, 4, 1, [0]), 4
+    yield "gates over 21", r(GATES, 21, 1, [0]), 4
+    yield "gates over 511", r(GATES, 511, 1, [0]), 4
+    yield "4 before 5 to 7 in gates", r(GATES, 21, 9, [999999]), 4
+    yield "order 0 in gates", r(GATES, 19, 0, []), 5
+    yield "order 9 in gates", r(GATES, 19, 9, [1] * 81), 5
+    yield "5 before 6 and 7 in gates", r(GATES, 19, 9, [999999]), 5
+    yield "15 entries at order 4 in gates", r(GATES, 19, 4, [1] * 15), 6
+    yield "17 entries at order 4 in gates", r(GATES, 19, 4, [1] * 17), 6
+    yield "no entry in gates", r(GATES, 19, 1, []), 6
+    yield "6 before 7 in gates", r(GATES, 19, 2, [16] * 3), 6
+    yield "entry 16 over 19 in gates", r(GATES, 19, 1, [16]), 7
+    yield "the last entry 256 over 283 in gates", r(GATES, 283, 8, [0] * 63 + [256]), 7

@@ -10,24 +10,31 @@
 
 enum { TEXT = 700, LINE = 600, THREADS = 4, ROUNDS = 200, PAGE = 4096, PAINT = 0xA5 };
 enum { CALL_STACK = 74 * 1024 }; /* what the header says of a call alone */
+#define EIGHT(a) a, a, a, a, a, a, a, a
 
 typedef struct {
     const char *name;
-    unsigned numbers[20]; /* kind, polynomial, order, count, values */
-    const char *answer;
+    unsigned numbers[68]; /* kind, polynomial, order, count, values */
+    const char *answer;   /* whole, or its beginning */
     uint32_t number;
+    size_t length; /* of an answer of which only the beginning stands here */
 } request_t;
 
 static const request_t REQUESTS[] = {
-    {"a search", {1, 19, 4, 4, 1, 4, 9, 13}, "     0     6    18    72\n     1     4     9    13\n", 0},
-    {"no row", {1, 19, 4, 4, 1, 2, 4, 8}, "     9\n", 9},
-    {"a check", {2, 7, 2, 4, 1, 0, 0, 1}, "     0     2     0     1     0\n", 0},
-    {"a survey", {3, 2, 0, 0}, "     0     1\n     7     2     2\n", 0},
+    {"a search", {1, 19, 4, 4, 1, 4, 9, 13}, "     0     6    18    72\n     1     4     9    13\n", 0, 0},
+    {"no row", {1, 19, 4, 4, 1, 2, 4, 8}, "     9\n", 9, 0},
+    {"a check", {2, 7, 2, 4, 1, 0, 0, 1}, "     0     2     0     1     0\n", 0, 0},
+    {"a survey", {3, 2, 0, 0}, "     0     1\n     7     2     2\n", 0, 0},
+    {"gates",
+     {4, 7, 2, 4, 2, 3, 0, 1},
+     "     0     4\n     1     2\n     4     3\n     0     1\n     6     2\n     5\n     7\n     2\n     3\n", 0, 0},
+    /* The heaviest element of all fields at every place. */
+    {"the longest gates", {4, 395, 8, 64, EIGHT(EIGHT(251))}, "     0  3136\n", 0, 13 + 13 * 3136 + 7 * 64},
     /* The walk of order 8 that goes deepest, to blocks of size 4. */
     {"the slowest search",
      {1, 415, 8, 16, 22, 23, 52, 53, 74, 75, 104, 105, 146, 147, 176, 177, 206, 207, 236, 237},
-     "     0   176   232  1856\n    52    53    75   177   105   207   206   146\n", 0},
-    {"no kind", {9, 19, 4, 0}, "     2\n", 2},
+     "     0   176   232  1856\n    52    53    75   177   105   207   206   146\n", 0, 0},
+    {"no kind", {9, 19, 4, 0}, "     2\n", 2, 0},
 };
 enum { MANY = sizeof REQUESTS / sizeof *REQUESTS };
 
@@ -42,7 +49,7 @@ static void report(int good, const char *test, const char *name) {
 static size_t request_text(const request_t *r, uint8_t *text) {
     char *at = (char *)text;
     for (unsigned k = 0; k < 4 + r->numbers[3]; k++) {
-        at += sprintf(at, k == 4 ? "\n%6u" : "%6u", r->numbers[k]);
+        at += sprintf(at, k >= 4 && k % 16 == 4 ? "\n%6u" : "%6u", r->numbers[k]);
     }
     *at++ = '\n';
     return (size_t)(at - (char *)text);
@@ -51,17 +58,18 @@ static size_t request_text(const request_t *r, uint8_t *text) {
 /* A call, and where its stack begins. */
 typedef struct {
     const request_t *request;
-    uint8_t text[TEXT], space[LINE];
+    uint8_t text[TEXT], space[ROWFIND_LONGEST_ANSWER];
     const uint8_t *top;
     int good;
 } call_t;
 
 /* Whether the request gets its answer, in a space of just the answer's length. */
 static __attribute__((noinline)) void make(call_t *c) {
-    size_t length = 1, due = strlen(c->request->answer), text_length = request_text(c->request, c->text);
+    size_t length = 1, shown = strlen(c->request->answer), text_length = request_text(c->request, c->text);
+    size_t due = c->request->length ? c->request->length : shown;
     c->top = __builtin_frame_address(0);
     uint32_t number = rowfind_answer(c->text, text_length, c->space, due, &length);
-    c->good = number == c->request->number && length == (number ? 0 : due) && memcmp(c->space, c->request->answer, due) == 0;
+    c->good = number == c->request->number && length == (number ? 0 : due) && memcmp(c->space, c->request->answer, shown) == 0;
 }
 
 static int answered(const request_t *r) {

@@ -1,4 +1,4 @@
-"""The proved row finder for Python: searches, checks and surveys, in Python numbers.
+"""The proved row finder for Python: searches, checks, surveys and gate lists, in Python numbers.
 
     >>> import rowfind
     >>> rowfind.search(19, 4, [1, 4, 9, 13])
@@ -7,6 +7,8 @@
     Check(branch_number=2, mds=False, involution=True, matrix_count=0)
     >>> rowfind.survey(2)
     [Polynomial(polynomial=7, count_sum=2, square_sum=2)]
+    >>> rowfind.gates(7, [[2, 3], [0, 1]])
+    Netlist(gates=[(1, 2), (4, 3), (0, 1), (6, 2)], carriers=[5, 7, 2, 3])
 
 A polynomial or an element is a number whose bit i is the coefficient of x^i; anything that Python takes for an index is a
 number, Sage's integers too. A request that is refused raises Refused, with the number and its meaning.
@@ -21,14 +23,16 @@ import operator
 import os
 from typing import NamedTuple
 
-SEARCH, CHECK, SURVEY = 1, 2, 3
+SEARCH, CHECK, SURVEY, GATES = 1, 2, 3, 4
 
 LARGEST = 999999  # number of six columns
+ALWAYS_ZERO = 999999  # in a gate list, for the carrier of an output bit that is always 0
 MOST_VALUES = 671  # of a request: more do not fit 4,096 bytes
+LONGEST_ANSWER = 52877  # bytes: ROWFIND_LONGEST_ANSWER of include/rowfind.h
 
 MEANINGS = {
     1: "the text is not in form, is too long, or has not as many values as its count says",
-    2: "the kind is not 1, 2 or 3",
+    2: "the kind is not 1, 2, 3 or 4",
     3: "the polynomial is not from 4 to 511 (for a survey: the degree is not from 2 to 8)",
     4: "the polynomial is reducible",
     5: "the order is not allowed for the kind",
@@ -77,6 +81,14 @@ class Polynomial(NamedTuple):
     square_sum: int
 
 
+class Netlist(NamedTuple):
+    """The two-input XOR gates of a matrix of order n over degree m. Input bit j of word i has the number i·m + j, and the gates
+    are numbered on from n·m. Output bit b of word i stands at i·m + b."""
+
+    gates: list  # the two numbers that each gate joins, the running result first
+    carriers: list  # the number that carries each output bit, or None where the bit is always 0
+
+
 def search(polynomial, order, candidates):
     """The lightest row of order 4 or 8 over the candidates that is an MDS involution, the first of these in dictionary order.
     Where there is none, Refused with number 9."""
@@ -86,10 +98,7 @@ def search(polynomial, order, candidates):
 
 def check(polynomial, matrix):
     """Branch number, MDS, involution and XOR count of a matrix, a list of its lines; the order is from 1 to 8."""
-    lines = [list(entries) for entries in matrix]
-    if any(len(entries) != len(lines) for entries in lines):
-        raise ValueError("a matrix has as many entries in each line as it has lines")
-    ((_, branch, mds, involution, count),) = numbers(answer(request(CHECK, polynomial, len(lines), sum(lines, []))))
+    ((_, branch, mds, involution, count),) = numbers(answer(of_matrix(CHECK, polynomial, matrix)))
     return Check(branch, mds == 1, involution == 1, count)
 
 
@@ -97,6 +106,14 @@ def survey(degree):
     """All irreducible polynomials of a degree from 2 to 8, in ascending order."""
     _, *lines = numbers(answer(request(SURVEY, degree, 0, [])))
     return sorted(Polynomial(*found) for found in lines)
+
+
+def gates(polynomial, matrix):
+    """The gates that make the product with a matrix, a list of its lines; the order is from 1 to 8. They are as many as the
+    matrix count of a check."""
+    (_, how_many), *lines = numbers(answer(of_matrix(GATES, polynomial, matrix)))
+    carriers = [None if number == ALWAYS_ZERO else number for (number,) in lines[how_many:]]
+    return Netlist([tuple(joined) for joined in lines[:how_many]], carriers)
 
 
 def line(values):
@@ -109,6 +126,14 @@ def request(kind, polynomial, order, values, count=None):
     values = [number(value) for value in values]
     head = [number(kind), number(polynomial), number(order), len(values) if count is None else number(count)]
     return line(head) + b"".join(line(values[k : k + 16]) for k in range(0, len(values), 16))
+
+
+def of_matrix(kind, polynomial, matrix):
+    """The text of a request about a matrix."""
+    lines = [list(entries) for entries in matrix]
+    if any(len(entries) != len(lines) for entries in lines):
+        raise ValueError("a matrix has as many entries in each line as it has lines")
+    return request(kind, polynomial, len(lines), sum(lines, []))
 
 
 def number(value):
@@ -129,11 +154,8 @@ def numbers(text):
 
 def answer(text):
     """The answer text due to a request text; Refused if it is refused."""
-    space, length = ctypes.create_string_buffer(1024), ctypes.c_size_t()
-    refusal = 10
-    while refusal == 10:
-        space = ctypes.create_string_buffer(2 * len(space))
-        refusal = library().rowfind_answer(text, len(text), space, len(space), ctypes.byref(length))
+    space, length = ctypes.create_string_buffer(LONGEST_ANSWER), ctypes.c_size_t()
+    refusal = library().rowfind_answer(text, len(text), space, len(space), ctypes.byref(length))
     if refusal:
         raise Refused(refusal)
     return space.raw[: length.value]

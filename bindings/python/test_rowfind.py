@@ -35,9 +35,13 @@ def answer_or_refusal(text):
         return rowfind.line([refused.number])
 
 
-def checked(matrix):
+def of_printed(function, matrix):
     entries, n = rowtext.entries_of(matrix), matrix["order"]
-    return rowfind.check(matrix["polynomial"], [entries[k : k + n] for k in range(0, n * n, n)])
+    return function(matrix["polynomial"], [entries[k : k + n] for k in range(0, n * n, n)])
+
+
+def checked(matrix):
+    return of_printed(rowfind.check, matrix)
 
 
 class Texts(unittest.TestCase):
@@ -86,6 +90,26 @@ class Functions(unittest.TestCase):
         self.assertEqual(everything, rowtext.irreducible_polynomials())
 
 
+    def test_gates(self):
+        found = rowfind.gates(7, [[2, 3], [0, 1]])
+        self.assertEqual(found, rowfind.Netlist([(1, 2), (4, 3), (0, 1), (6, 2)], [5, 7, 2, 3]))
+        self.assertEqual(rowfind.gates(Index(7), [map(Index, [3])]), rowfind.Netlist([(0, 1)], [2, 0]))
+        self.assertEqual(rowfind.gates(7, [[0]]), rowfind.Netlist([], [None, None]))
+
+    def test_as_many_gates_as_the_matrix_counts(self):
+        for matrix in rowtext.printed_matrices():
+            gates = of_printed(rowfind.gates, matrix).gates
+            self.assertEqual(len(gates), checked(matrix).matrix_count, matrix["where"])
+
+    def test_the_longest_gates(self):
+        heaviest = [[251] * 8] * 8
+        found = rowfind.gates(395, heaviest)
+        self.assertEqual((len(found.gates), len(found.carriers)), (3136, 64))
+        text = rowfind.answer(rowfind.of_matrix(rowfind.GATES, 395, heaviest))
+        self.assertEqual(len(text), 13 + 13 * 3136 + 7 * 64)
+        self.assertLessEqual(len(text), rowfind.LONGEST_ANSWER)
+
+
 class Refusals(unittest.TestCase):
     def test_number_and_meaning(self):
         with self.assertRaises(rowfind.Refused) as caught:
@@ -105,7 +129,13 @@ class Refusals(unittest.TestCase):
             7: lambda: rowfind.check(19, [[16]]),
             8: lambda: rowfind.search(19, 4, [1, 1]),
         }
-        for number, call in refused.items():
+        of_gates = {
+            3: lambda: rowfind.gates(3, [[1]]),
+            4: lambda: rowfind.gates(21, [[1]]),
+            5: lambda: rowfind.gates(19, []),
+            7: lambda: rowfind.gates(19, [[16]]),
+        }
+        for number, call in (*refused.items(), *of_gates.items()):
             with self.assertRaises(rowfind.Refused) as caught:
                 call()
             self.assertEqual(caught.exception.number, number)
@@ -120,8 +150,9 @@ class Refusals(unittest.TestCase):
 
     def test_what_is_no_square_matrix(self):
         for matrix in ([[1, 2]], [[1], [2]], [[1, 2], [3]]):
-            with self.assertRaises(ValueError):
-                rowfind.check(19, matrix)
+            for function in (rowfind.check, rowfind.gates):
+                with self.assertRaises(ValueError):
+                    function(19, matrix)
 
 
 class Library(unittest.TestCase):

@@ -2,6 +2,7 @@
 
 use crate::distance::{branch_number, lightest_word, Word};
 use crate::field::{degree, irreducible, Field, Fields};
+use crate::gates::Netlist;
 use crate::matrix::{line_count, Matrix};
 use crate::search::lightest_row;
 use crate::text::{line_of, read_request, Request};
@@ -35,7 +36,8 @@ impl Answerer {
         match request.kind {
             1 => search_answer(self.fields.of(request.polynomial), &request),
             2 => Ok(check_answer(self.fields.of(request.polynomial), &request)),
-            _ => Ok(survey_answer(request.polynomial)),
+            3 => Ok(survey_answer(request.polynomial)),
+            _ => Ok(Netlist::of(self.fields.of(request.polynomial), &matrix_of(&request)).text()),
         }
     }
 }
@@ -45,7 +47,7 @@ fn judged(text: &[u8]) -> Result<Request, Refusal> {
     let request = read_request(text).ok_or(1u32)?;
     let refused = match request.kind {
         1 => search_refusal(&request),
-        2 => check_refusal(&request),
+        2 | 4 => check_refusal(&request),
         3 => survey_refusal(&request),
         _ => Some(2),
     };
@@ -196,6 +198,15 @@ mod tests {
     }
 
     #[test]
+    fn reference_gates() {
+        assert_eq!(ask(4, 7, 2, &[2, 3, 0, 1]), [0, 4, 1, 2, 4, 3, 0, 1, 6, 2, 5, 7, 2, 3]);
+        assert_eq!(ask(4, 7, 1, &[3]), [0, 1, 0, 1, 2, 0]);
+        assert_eq!(ask(4, 7, 1, &[0]), [0, 0, 999999, 999999]);
+        let worked = ask(4, 19, 4, &hadamard(&[1, 4, 9, 13]));
+        assert_eq!((worked[1], worked.len()), (72, 2 + 2 * 72 + 16));
+    }
+
+    #[test]
     fn reference_refusals() {
         assert_eq!(ask(1, 3, 4, &[1]), [3]);
         assert_eq!(ask(1, 7, 4, &[1]), [9]);
@@ -213,8 +224,8 @@ mod tests {
     fn lowest_refusal_comes_first() {
         let answer = |text: &str| Answerer::default().answer(text.as_bytes());
         assert_eq!(answer(""), "     1\n");
-        assert_eq!(answer("     4     3     9     1\n"), "     1\n");
-        assert_eq!(ask(4, 3, 9, &[0, 0]), [2]);
+        assert_eq!(answer("     9     3     9     1\n"), "     1\n");
+        assert_eq!(ask(9, 3, 9, &[0, 0]), [2]);
         assert_eq!(ask(0, 21, 9, &[300]), [2]);
         assert_eq!(ask(1, 512, 5, &[]), [3]);
         assert_eq!(ask(1, 21, 5, &[]), [4]);
@@ -224,10 +235,14 @@ mod tests {
         assert_eq!(ask(1, 19, 4, &[0, 0, 16]), [7]);
         assert_eq!(ask(1, 19, 4, &[2, 4, 2]), [8]);
         assert_eq!(ask(1, 19, 4, &[2, 0]), [8]);
-        assert_eq!(ask(2, 19, 0, &[]), [5]);
-        assert_eq!(ask(2, 19, 9, &[1]), [5]);
-        assert_eq!(ask(2, 19, 2, &[16; 3]), [6]);
-        assert_eq!(ask(2, 19, 2, &[0, 0, 0, 16]), [7]);
+        for kind in [2, 4] {
+            assert_eq!(ask(kind, 512, 9, &[16]), [3]);
+            assert_eq!(ask(kind, 21, 9, &[16]), [4]);
+            assert_eq!(ask(kind, 19, 0, &[]), [5]);
+            assert_eq!(ask(kind, 19, 9, &[16]), [5]);
+            assert_eq!(ask(kind, 19, 2, &[16; 3]), [6]);
+            assert_eq!(ask(kind, 19, 2, &[0, 0, 0, 16]), [7]);
+        }
         assert_eq!(ask(3, 9, 1, &[1]), [3]);
         assert_eq!(ask(3, 1, 0, &[]), [3]);
         assert_eq!(ask(3, 4, 1, &[1]), [5]);

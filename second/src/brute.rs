@@ -9,7 +9,7 @@ pub fn weight(words: &[u8; MOST]) -> usize {
 }
 
 /// All inputs of a matrix of this order, 0 first.
-fn inputs(field: &Field, order: usize) -> impl Iterator<Item = [u8; MOST]> {
+pub fn inputs(field: &Field, order: usize) -> impl Iterator<Item = [u8; MOST]> {
     let (degree, mask) = (field.degree, field.size - 1);
     (0..1usize << (degree * order)).map(move |number| {
         let mut input = [0; MOST];

@@ -12,6 +12,7 @@ mod brute;
 mod calls;
 mod distance;
 mod field;
+mod gates;
 mod matrix;
 mod search;
 mod text;

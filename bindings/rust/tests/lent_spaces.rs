@@ -1,5 +1,5 @@
 //! Spaces of every length are lent, and every byte of them is looked at after the call.
-use rowfind::{answer, Reply};
+use rowfind::{answer, Reply, LONGEST_ANSWER};
 
 /// The text of numbers in six columns, one line for each list.
 fn text(lines: &[&[u32]]) -> Vec<u8> {
@@ -59,10 +59,46 @@ fn a_survey_of_one_polynomial() {
 }
 
 #[test]
+fn accepted_gates() {
+    let lists: [(Vec<u8>, Vec<u8>); 3] = [
+        (
+            text(&[&[4, 7, 2, 4], &[2, 3, 0, 1]]),
+            text(&[&[0, 4], &[1, 2], &[4, 3], &[0, 1], &[6, 2], &[5], &[7], &[2], &[3]]),
+        ),
+        (text(&[&[4, 7, 1, 1], &[3]]), text(&[&[0, 1], &[0, 1], &[2], &[0]])),
+        (text(&[&[4, 7, 1, 1], &[0]]), text(&[&[0, 0], &[999999], &[999999]])),
+    ];
+    for (request, expected) in lists {
+        check_spaces(&request, &expected, 0, expected.len() + 1);
+    }
+}
+
+/// The longest list there is: it fits just its length, and one byte less leaves every byte as it was.
+#[test]
+fn the_longest_gates() {
+    // No element of a field has a larger XOR count than 251 over 395, which has 42.
+    const GATES: usize = 64 * 42 + 56 * 8;
+    let request = text(&[&[4, 395, 8, 64], &[251; 16], &[251; 16], &[251; 16], &[251; 16]]);
+    let mut whole = lent(LONGEST_ANSWER);
+    let reply = answer(&request, &mut whole);
+    assert_eq!(reply, Reply { number: 0, length: 13 + 13 * GATES + 7 * 64 });
+    assert!(whole.starts_with(&text(&[&[0, GATES as u32]])));
+    assert_eq!(whole[reply.length..], lent(LONGEST_ANSWER)[reply.length..]);
+
+    let mut exact = lent(reply.length);
+    assert_eq!(answer(&request, &mut exact), reply);
+    assert_eq!(exact, whole[..reply.length]);
+
+    let mut short = lent(reply.length - 1);
+    assert_eq!(answer(&request, &mut short), Reply { number: 10, length: 0 });
+    assert_eq!(short, lent(reply.length - 1));
+}
+
+#[test]
 fn every_refusal() {
     let refused: [(u32, Vec<u8>); 9] = [
         (1, b"     1    19     4     4\n".to_vec()),
-        (2, text(&[&[4, 19, 4, 0]])),
+        (2, text(&[&[9, 19, 4, 0]])),
         (3, text(&[&[1, 3, 5, 0]])),
         (4, text(&[&[1, 21, 5, 0]])),
         (5, text(&[&[1, 19, 5, 0]])),
@@ -70,6 +106,21 @@ fn every_refusal() {
         (7, text(&[&[1, 19, 4, 2], &[16, 0]])),
         (8, text(&[&[1, 19, 4, 2], &[7, 7]])),
         (9, text(&[&[1, 19, 4, 4], &[1, 2, 4, 8]])),
+    ];
+    for (number, request) in refused {
+        check_spaces(&request, &text(&[&[number]]), number, 9);
+    }
+}
+
+#[test]
+fn every_refusal_of_gates() {
+    let refused: [(u32, Vec<u8>); 6] = [
+        (1, b"     4     7     1     1\n".to_vec()),
+        (3, text(&[&[4, 3, 9, 1], &[999]])),
+        (4, text(&[&[4, 21, 9, 1], &[999]])),
+        (5, text(&[&[4, 19, 9, 1], &[999]])),
+        (6, text(&[&[4, 19, 2, 1], &[999]])),
+        (7, text(&[&[4, 19, 1, 1], &[16]])),
     ];
     for (number, request) in refused {
         check_spaces(&request, &text(&[&[number]]), number, 9);
