@@ -6,7 +6,6 @@ use mathlib.Core.Bool.{true, not}
 use mathlib.Core.List.{List, [], _∷_}
 use Prim.Native.Nat.{ℕ}
 use borrow.Author.Tests.{ne-eqb}
-use lib.Dec.{eqb}
 use Rattle.refusal.specs.Refusals.{fault, Answer, answer, answerAfter}
 use Rattle.refusal.specs.declared.Refusal.the-variants.{Kind as UnknownKind}
 use Rattle.refusal.proofs.Faults.{after-taken, after-left}

@@ -1,42 +1,49 @@
 -- The lines of a gate list: its text, piece by piece as it is written, and its length, which the matrix count tells before the first byte is written
 -- (`gate-lines-length`): 13 bytes for line one and for each gate, 7 for each output bit, at most 52,877 in all. Assumes nothing.
 use mathlib.Core.Path.{_≡_, refl, sym, ap, ap₂, _∙_, subst}
+use mathlib.Core.Logic.{_⊎_, ⊎-elim}
 use mathlib.Core.Bool.{Bool, true, false}
-use mathlib.Core.List.{List, [], _∷_, _++_, map, map-append, append-nil}
-use Prim.Native.Nat.{ℕ, zero, suc, _+_, _-_, _*_, _^_, _≤_, _<_, zero-le}
-use native.Mathlib.Nat.{add-zero}
+use mathlib.Core.List.{List, [], _∷_, _++_, map, map-append}
+use Prim.Native.Nat.{ℕ, _+_, _-_, _*_, _^_, _≤_, _<_}
 use native.Mathlib.Numerals.{add-one}
 use native.Mathlib.Omega.{arith}
+use borrow.Author.Tests.{eq-eqb, ne-eqb}
+use lib.Dec.{eqb}
 use lib.ListN.{length, length-append, getD, drop, drop-of-length-le}
 use lib.Seq.{drop-cons}
 use Rattle.field.specs.Polynomial.{Modulus, degree}
 use Rattle.matrix.specs.Counts.{matrixCount}
-use Rattle.gates.specs.Gates.{Gate, gate, outputs, joining, gatesOf, carrierOf, gatesFrom, carriersFrom, gatesOfMatrix, carriersOfMatrix}
-use Rattle.gates.specs.Netlist.{Netlist}
-use Rattle.gates.proofs.Counting.{length-gates, length-joining, gates-count}
+use Rattle.gates.specs.Gates.{Gate, outputs, joining, gatesOf, carrierOf, gatesFrom, carriersFrom, gatesOfMatrix, carriersOfMatrix}
+use Rattle.gates.proofs.Counting.{length-gates, gates-count}
 use Rattle.gates.proofs.SameEntries.{gates-same, carriers-same}
-use Rattle.gates.proofs.Netlists.{bits-few, gates-few, carriers-length, netlist}
-use Rattle.text.specs.Text.{lineText, answerText, SixDigits}
+use Rattle.gates.proofs.Netlists.{bits-few, gates-few, carriers-length}
+use Rattle.text.specs.Text.{lineText, answerText}
 use Rattle.text.specs.Writing.{Put}
 use Rattle.text.specs.Reading.{valueAt, valuesFrom}
-use Rattle.text.proofs.Form.{six-none, six-more}
 use Rattle.text.proofs.Lengths.{length-line}
 use Rattle.text.proofs.Places.{Rest, rest-start, rest-step, rest-end}
 use Rattle.text.proofs.Answers.{answer-append}
-use Rattle.answer.specs.Due.{Kind, entriesOf, check, gates, gateLine, carrierLine, gateLines}
+use Rattle.answer.specs.Due.{entriesOf, check, gates, gateLine, carrierLine, gateLines, kinds, kindAmong}
 use Rattle.answer.specs.Steps.Asked.{matrixLines, matrixKind}
 use Rattle.answer.specs.Steps.Outputs.{outputText, outputTexts}
+use Rattle.answer.proofs.DueFrom.{kind-check, kind-gates}
 use Rattle.answer.proofs.Values.{entries-read, check-read}
 
 -- ---- the kinds that ask about a matrix
 
-pub asked-gates : matrixKind true ≡ gates
+asked-gates : matrixKind true ≡ gates
 unfolding matrixKind gates
 asked-gates = refl
 
-pub asked-check : matrixKind false ≡ check
+asked-check : matrixKind false ≡ check
 unfolding matrixKind check
 asked-check = refl
+
+-- of the kinds 2 and 4 it is 4 that asks for gates
+pub asked-kind : (kind : ℕ) → (kind ≡ 2) ⊎ (kind ≡ 4) → matrixKind (eqb kind 4) ≡ kindAmong kinds kind
+asked-kind kind h =
+    ⊎-elim (λ (e : kind ≡ 2). ap matrixKind (ne-eqb kind 4 (λ q. omega arith)) ∙ asked-check ∙ kind-check kind e)
+    (λ (e : kind ≡ 4). ap matrixKind (eq-eqb kind 4 e) ∙ asked-gates ∙ kind-gates kind e) h
 
 -- ---- the gates of an output bit, one by one
 

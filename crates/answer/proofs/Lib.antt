@@ -18,4 +18,5 @@ pub mod Lines
 pub mod RowCounts
 pub mod AsBefore
 pub mod BeforeGates
+pub mod GateTexts
 pub mod FewCandidates

@@ -24,6 +24,7 @@ use Rattle.matrix.specs.Numbers.{elements}
 use Rattle.matrix.specs.Counts.{total, elementCount, additionCount, rowCount, matrixCount}
 use Rattle.matrix.specs.Answers.{checkOf, isWrongOrder, isWrongHalvedOrder, someWordTooLarge, someEntryTooLarge, determinantFaults, matrixFaults, halvedFaults}
 use Rattle.gates.specs.Gates.{bit, isInput, inputsOf, outputs, joining, gatesOf, carrierOf, gatesFrom, carriersFrom, gatesOfMatrix, carriersOfMatrix}
+use Rattle.gates.specs.Wires.{wires, carriedBit, evaluate}
 use Rattle.search.specs.Lightest.{member, Best, nothing, found}
 use Rattle.search.specs.Shape.{hadamardShape}
 use Rattle.search.specs.Answer.{isWrongSearchOrder, isWrongSearchCount, someTooLarge, someRepeated, someBad, sumOf, lightestRow, searchFaults}
@@ -166,12 +167,15 @@ checks-hold =
     and all-none
 
 gate-lists-hold : AllReferenceSay gateLists
-unfolding ReferenceSays gateLists fits allSix dueTo kinds kindAmong search check survey gates answerAfter firstNumber checkFaults polynomialFaults isWrongOrder isOutside isIrreducible someBelow someTooLarge isTooLarge gateLines entriesOf gatesOfMatrix carriersOfMatrix outputs inputsOf isInput bit gatesFrom carriersFrom gatesOf carrierOf joining passing tabulate product rem reduce degree overDigits digitsWithin _⊗_ _⊕_
+unfolding ReferenceSays gateLists fits allSix dueTo kinds kindAmong search check survey gates answerAfter firstNumber checkFaults polynomialFaults isWrongOrder isOutside isIrreducible someBelow someTooLarge isTooLarge gateLines entriesOf gatesOfMatrix carriersOfMatrix outputs inputsOf isInput bit gatesFrom carriersFrom gatesOf carrierOf joining passing tabulate evaluate carriedBit wires product rem reduce degree overDigits digitsWithin _⊗_ _⊕_
 gate-lists-hold =
     is-due 4 7 2 _ refl _ (fixed 4 _ (λ h. omega arith)) refl
     and is-due 4 7 1 _ refl _ (fixed 4 _ (λ h. omega arith)) refl
     and is-due 4 7 1 _ refl _ (fixed 4 _ (λ h. omega arith)) refl
     and is-due 4 11 2 _ refl _ (fixed 4 _ (λ h. omega arith)) refl
+    and refl
+    and refl
+    and refl
     and is-due 4 3 1 _ refl _ (fixed 4 _ (λ h. omega arith)) refl
     and is-due 4 7 0 _ refl _ (fixed 4 _ (λ h. omega arith)) refl
     and is-due 4 7 9 _ refl _ (fixed 4 _ (λ h. omega arith)) refl

@@ -1,10 +1,9 @@
 -- The sums of a survey, and its lines. Assumes nothing.
 use mathlib.Core.Path.{_≡_, refl, sym, ap, _∙_}
-use mathlib.Core.Logic.{⊎-elim}
-use mathlib.Core.Bool.{Bool, true}
+use mathlib.Core.Bool.{true}
 use mathlib.Core.List.{List, [], _∷_, _++_, map}
-use Prim.Native.Nat.{ℕ, zero, suc, _+_, _-_, _*_, _^_, _≤_, _<_}
-use native.Mathlib.Nat.{mul-le-mul, le-trans, not-suc-le-zero, eq-or-lt-of-le, le-of-suc-le-suc}
+use Prim.Native.Nat.{ℕ, suc, _+_, _-_, _*_, _^_, _≤_, _<_}
+use native.Mathlib.Nat.{mul-le-mul, le-trans}
 use native.Mathlib.Numerals.{add-one}
 use native.Mathlib.Omega.{arith}
 use borrow.Author.Tests.{leb-true, eqb-true}
@@ -22,7 +21,6 @@ use Rattle.field.specs.Steps.{everyBelow}
 use Rattle.matrix.proofs.Tallies.{xorCount-le, total-step, total-le}
 use Rattle.field.proofs.Calls.{elements-most}
 use Rattle.text.specs.Text.{lineText, answerText, SixDigits}
-use Rattle.text.proofs.Compare.{both-true}
 use Rattle.text.proofs.Form.{six-none, six-more}
 use Rattle.text.proofs.Lengths.{length-line}
 use Rattle.answer.specs.Due.{surveyLine, surveyLines}

@@ -1,14 +1,17 @@
--- Demands 1 and 3 of request texts, in the customer's words. Assumes nothing.
+-- Demands 1 and 3 of request texts, and what request Two promises of them, in the customer's words. Assumes nothing.
 use mathlib.Core.Path.{_≡_}
 use mathlib.Core.Logic.{_↔_, _⊎_}
 use mathlib.Core.List.{List, [], _∷_, _++_}
-use Prim.Native.Nat.{ℕ, _≤_, _<_}
+use Prim.Native.Nat.{ℕ, _+_, _*_, _≤_, _<_}
 use lib.ListN.{length, take, drop}
 use Rattle.refusal.specs.Refusals.{Answer, answer}
+use Rattle.field.specs.Polynomial.{degree}
+use Rattle.matrix.specs.Counts.{matrixCount}
+use Rattle.gates.specs.Netlist.{Netlist}
 use Rattle.search.specs.Demands.{Both, Demanded}
 use Rattle.text.specs.Text.{lineText, answerText}
 use Rattle.text.specs.Reading.{kindOf, polynomialOf, orderOf, valuesOf}
-use Rattle.answer.specs.Due.{rowLines, due}
+use Rattle.answer.specs.Due.{rowLines, entriesOf, gateLines, due}
 use Rattle.answer.specs.Limits.{StatedOf}
 use Rattle.answer.specs.Answered.{MayWrite, writtenAt}
 
@@ -132,3 +135,17 @@ pub data Lowest (text space : List ℕ) (number : ℕ) : Type 0 where
   none : WellFormedSearch text → NoRow text → number ≡ 9 → Lowest text space number
   accepted : Faultless text → length (answerText (due text .value)) ≤ length space → number ≡ 0 → Lowest text space number
   too-short : Faultless text → length space < length (answerText (due text .value)) → number ≡ 10 → Lowest text space number
+
+-- ---- request Two
+
+-- the request's matrix
+abbrev pub matrixIn : List ℕ → ℕ → ℕ → ℕ
+matrixIn text = entriesOf (orderOf text) (valuesOf text)
+
+-- an accepted text of kind 4: the lines are those of the gates of its matrix, of which all holds that is promised; the length is known from the
+-- matrix count, and is at most 64 KiB
+pub record GatesAnswered (text : List ℕ) : Type 0 where
+  pub gates-due : due text .value ≡ gateLines (polynomialOf text) (orderOf text) (matrixIn text)
+  pub promised : Netlist (polynomialOf text) (orderOf text) (matrixIn text)
+  pub length-is : length (answerText (due text .value)) ≡ 13 + 13 * matrixCount (polynomialOf text) (orderOf text) (matrixIn text) + 7 * (orderOf text * degree (polynomialOf text))
+  pub within : length (answerText (due text .value)) ≤ 65536

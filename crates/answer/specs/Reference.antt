@@ -13,6 +13,8 @@ use Rattle.field.specs.Faults.{inverseFaults}
 use Rattle.matrix.specs.Numbers.{numbers}
 use Rattle.matrix.specs.Counts.{matrixCount}
 use Rattle.matrix.specs.Answers.{determinantFaults, matrixFaults, halvedFaults}
+use Rattle.gates.specs.Gates.{gatesOfMatrix, carriersOfMatrix}
+use Rattle.gates.specs.Wires.{evaluate}
 use Rattle.refusal.specs.Refusals.{Fault, firstNumber, Answer, answer}
 use Rattle.text.specs.Text.{requestText}
 use Rattle.text.specs.Reading.{kindOf}
@@ -32,6 +34,8 @@ pub data ReferenceLine : Type 0 where
   determinants : ℕ → ℕ → List ℕ → ℕ → ReferenceLine
   -- over the polynomial the matrix of this order with these entries has this XOR count
   matrix-counts : ℕ → ℕ → List ℕ → ℕ → ReferenceLine
+  -- evaluating the gates of this matrix on these input bits gives these output bits
+  evaluations : ℕ → ℕ → List ℕ → List ℕ → List ℕ → ReferenceLine
   -- to the request of this kind, polynomial, order and values this is due
   requests : ℕ → ℕ → ℕ → List ℕ → Answer (List (List ℕ)) → ReferenceLine
   -- such a request is not refused with this number
@@ -65,6 +69,7 @@ ReferenceSays (powers p a k c) = power p a k ≡ c
 ReferenceSays (sums elements total) = foldl _⊕_ 0 elements ≡ total
 ReferenceSays (determinants p n entries c) = det (numbers p) n (entriesOf n entries) ≡ c
 ReferenceSays (matrix-counts p n entries c) = matrixCount p n (entriesOf n entries) ≡ c
+ReferenceSays (evaluations p n entries bits result) = evaluate (gatesOfMatrix p n (entriesOf n entries)) (carriersOfMatrix p n (entriesOf n entries)) bits ≡ result
 ReferenceSays (requests kind polynomial order values d) = IsDue (requestText kind polynomial order values) d
 ReferenceSays (not-given kind polynomial order values number) = due (requestText kind polynomial order values) .number ≢ number
 ReferenceSays (calls faults number) = firstNumber faults ≡ number
@@ -115,7 +120,8 @@ checks =
     []
 
 -- gates over 7 (document 02, Two): a matrix that is not its own transpose, whose first output bit joins three inputs; one input alone; a bit that
--- is always 0. Over 11, order 2: three bits to a word, and an output bit of the second word. The same refusals as of a check; kind 5 is none
+-- is always 0. Over 11, order 2: three bits to a word, and output bits of the second word. What the first list computes, on the words 1 2 (3 2) and 3 3 (3 3).
+-- The same refusals as of a check; kind 5 is none
 unfoldable pub gateLists : List ReferenceLine
 gateLists =
     requests 4 7 2 (2 ∷ 3 ∷ 0 ∷ 1 ∷ [])
@@ -124,6 +130,9 @@ gateLists =
     requests 4 7 1 (0 ∷ []) (answer 0 ((0 ∷ 0 ∷ []) ∷ (999999 ∷ []) ∷ (999999 ∷ []) ∷ [])) ∷
     requests 4 11 2 (0 ∷ 0 ∷ 1 ∷ 2 ∷ [])
     (answer 0 ((0 ∷ 4 ∷ []) ∷ (0 ∷ 5 ∷ []) ∷ (1 ∷ 3 ∷ []) ∷ (7 ∷ 5 ∷ []) ∷ (2 ∷ 4 ∷ []) ∷ (999999 ∷ []) ∷ (999999 ∷ []) ∷ (999999 ∷ []) ∷ (6 ∷ []) ∷ (8 ∷ []) ∷ (9 ∷ []) ∷ [])) ∷
+    evaluations 7 2 (2 ∷ 3 ∷ 0 ∷ 1 ∷ []) (1 ∷ 0 ∷ 0 ∷ 1 ∷ []) (1 ∷ 1 ∷ 0 ∷ 1 ∷ []) ∷
+    evaluations 7 2 (2 ∷ 3 ∷ 0 ∷ 1 ∷ []) (1 ∷ 1 ∷ 1 ∷ 1 ∷ []) (1 ∷ 1 ∷ 1 ∷ 1 ∷ []) ∷
+    evaluations 7 1 (0 ∷ []) (1 ∷ 1 ∷ []) (0 ∷ 0 ∷ []) ∷
     requests 4 3 1 (0 ∷ []) (answer 3 []) ∷
     requests 4 7 0 [] (answer 5 []) ∷
     requests 4 7 9 [] (answer 5 []) ∷

@@ -17,14 +17,14 @@ use crate::Reply;
 use crate::check::matrix_of;
 use crate::write::too_short;
 
-// The lowest of the inputs of an output bit; 0 where there is none.
-fn lowest(inputs: &[u8]) -> u32
-    ensures { λ r. ⌜ (r ≡ getD (now (inputs .entry)) 0 0) × (r ≤ 255) ⌝ }
+// Input k of an output bit, counted from the lowest; 0 where there is none.
+fn input_at(inputs: &[u8], k: usize) -> u32
+    ensures { λ r. ⌜ (r ≡ getD (now (inputs .entry)) k 0) × (r ≤ 255) ⌝ }
 {
-    if inputs.len() == 0 {
-        0
+    if k < inputs.len() {
+        gates::wide(inputs[k])
     } else {
-        gates::wide(inputs[0])
+        0
     }
 }
 
@@ -33,12 +33,12 @@ fn put_gates(space: &mut [u8], at: usize, next: u32, inputs: &[u8]) -> usize
     requires { ⌜ (length (now inputs) ≤ 64) × (next ≤ 900000) × (at + length (outputText false next (now inputs)) ≤ length (now space)) ⌝ }
     ensures { λ r. ⌜ Put (now (space .entry)) (now (space .exit)) at (outputText false next (now (inputs .entry))) r ⌝ }
 {
-    let mut running = lowest(inputs);
+    let mut running = input_at(inputs, 0);
     let mut gate = next;
     let mut place = at;
     let mut k = 1;
     while k < inputs.len() {
-        let input = gates::wide(inputs[k]);
+        let input = input_at(inputs, k);
         place = text::put_line(space, place, &[running, input]);
         running = gate;
         gate += 1;

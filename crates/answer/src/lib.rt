@@ -34,9 +34,8 @@ fn answer_kind(
 {
     match kind {
         1 => row::search_row(part, space, polynomial, order, count),
-        2 => check::of_matrix(part, space, polynomial, order, count, false),
+        2 | 4 => check::of_matrix(part, space, polynomial, order, count, kind == 4),
         3 => survey::survey(part, space, polynomial, order, count),
-        4 => check::of_matrix(part, space, polynomial, order, count, true),
         _ => refuse(space, Refusal::Kind),
     }
 }

@@ -4,8 +4,8 @@ use mathlib.Core.Path.{_≡_, refl, sym, ap, ap₂, _∙_}
 use mathlib.Core.Bool.{cond}
 use mathlib.Core.Logic.{_≢_, _⊎_, _↔_, ⊎-elim}
 use mathlib.Core.List.{List, [], _∷_, List·Memᴰ, List·Memᴰ·head, List·Memᴰ·tail}
-use Prim.Native.Nat.{ℕ, zero, suc, _+_, _-_, _*_, _/_, _%_, _^_, _≤_, _<_}
-use native.Mathlib.Nat.{le-refl, mod-lt, div-eq-of-lt, div-add-mod', mul-div-cancel-left, mul-mod-left, div-lt-iff-lt-mul, pow-suc}
+use Prim.Native.Nat.{ℕ, suc, _+_, _-_, _*_, _/_, _%_, _^_, _≤_, _<_}
+use native.Mathlib.Nat.{mod-lt, div-eq-of-lt, div-add-mod', mul-div-cancel-left, mul-mod-left, div-lt-iff-lt-mul, pow-suc}
 use native.Mathlib.Decide.{ℕ-discrete}
 use native.Mathlib.Omega.{arith}
 use borrow.Author.Tests.{eq-eqb, ne-eqb}
@@ -16,11 +16,11 @@ use Rattle.algebra.specs.Matrix.{tabulate, apply}
 use Rattle.algebra.proofs.Words.{getD-tabulate}
 use Rattle.algebra.proofs.Sums.{le-or-lt}
 use Rattle.field.specs.Polynomial.{_⊕_, Modulus, degree}
-use Rattle.field.proofs.Sum.{sum-zero-l, sum-zero-r, sum-self}
+use Rattle.field.proofs.Sum.{sum-zero-r, sum-self}
 use Rattle.field.proofs.Degrees.{polynomial}
 use Rattle.field.proofs.Completeness.{Ascends, rise, ascends-above}
 use Rattle.matrix.specs.Numbers.{numbers, WordsInField}
-use Rattle.gates.specs.Gates.{bit, inputsOf, outputs, gatesOf, carrierOf, gatesOfMatrix, carriersOfMatrix}
+use Rattle.gates.specs.Gates.{bit, outputs, gatesOf, carrierOf, gatesOfMatrix, carriersOfMatrix}
 use Rattle.gates.specs.Wires.{bitsOf}
 use Rattle.gates.specs.Netlist.{productBits}
 use Rattle.gates.proofs.Bits.{bit-zero, bit-own}

@@ -2,7 +2,7 @@
 -- element has one (`line-positive`). Assumes nothing.
 use mathlib.Core.Path.{_≡_, refl, sym, ap, _∙_}
 use mathlib.Core.Logic.{⊎-elim}
-use Prim.Native.Nat.{ℕ, zero, suc, _+_, _*_, _^_, _≤_, _<_}
+use Prim.Native.Nat.{ℕ, zero, suc, _+_, _*_, _^_, _<_}
 use native.Mathlib.Nat.{le-refl, zero-mul, one-mul, mul-zero, eq-zero-or-pos}
 use native.Mathlib.Decide.{ℕ-discrete}
 use native.Mathlib.Omega.{arith}
@@ -13,7 +13,7 @@ use lib.Pow.{pow-lt}
 use Rattle.algebra.specs.Matrix.{sum}
 use Rattle.algebra.proofs.Words.{oneUnless}
 use Rattle.algebra.proofs.Sums.{Naturals, naturals, sum-cong, sum-swap}
-use Rattle.field.specs.Polynomial.{_⊕_, Modulus, degree, product, onesInColumns, xorCount, Irreducible}
+use Rattle.field.specs.Polynomial.{Modulus, degree, product, onesInColumns, xorCount, Irreducible}
 use Rattle.field.proofs.Sum.{sum-self}
 use Rattle.field.proofs.Degrees.{Polynomial, polynomial}
 use Rattle.field.proofs.Irreducibility.{irreducible-to}

@@ -1,6 +1,6 @@
 -- The bits of a number: those of a sum, of a product, and how many are 1. Bit b of a times x is the exclusive or, over the bits k of x, of bit k of
 -- x times bit b of a·2^k (`bit-product`). Assumes nothing.
-use mathlib.Core.Path.{_≡_, refl, sym, ap, ap₂, _∙_}
+use mathlib.Core.Path.{_≡_, refl, sym, ap, _∙_}
 use Prim.Native.Nat.{ℕ, zero, suc, _+_, _*_, _/_, _%_, _^_, _<_}
 use native.Mathlib.Nat.{zero-mul, one-mul, zero-div, mod-one, mod-lt, mod-eq-of-lt, suc-add, zero-add, div-self, add-comm}
 use lib.Bits.{differ, xor-shifted}

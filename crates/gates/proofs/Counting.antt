@@ -3,21 +3,21 @@
 use mathlib.Core.Path.{_≡_, refl, sym, ap, ap₂, _∙_}
 use mathlib.Core.Bool.{cond}
 use mathlib.Core.Logic.{⊎-elim}
-use mathlib.Core.List.{List, [], _∷_, _++_}
+use mathlib.Core.List.{List, [], _∷_}
 use Prim.Native.Nat.{ℕ, zero, suc, _+_, _-_, _*_, _/_, _%_, _^_, _≤_, _<_, zero-le}
-use native.Mathlib.Nat.{le-refl, zero-mul, suc-mul, eq-zero-or-pos, mod-lt, div-lt-iff-lt-mul}
+use native.Mathlib.Nat.{le-refl, zero-mul, suc-mul, eq-zero-or-pos}
 use native.Mathlib.Decide.{ℕ-discrete}
 use native.Mathlib.Omega.{arith}
 use borrow.Author.Tests.{eq-eqb, ne-eqb}
 use lib.Dec.{eqb}
-use lib.ListN.{length, getD, length-append}
+use lib.ListN.{length, length-append}
 use Rattle.algebra.specs.Matrix.{tabulate, sum, weight}
-use Rattle.algebra.proofs.Words.{oneUnless, getD-tabulate}
+use Rattle.algebra.proofs.Words.{oneUnless}
 use Rattle.algebra.proofs.Sums.{Naturals, naturals, sum-cong, sum-plus, sum-swap, sum-flat}
 use Rattle.algebra.proofs.Weights.{sum-le, weight-tabulate}
-use Rattle.field.specs.Polynomial.{Modulus, degree, product, onesInColumns, xorCount}
+use Rattle.field.specs.Polynomial.{Modulus, degree, product, xorCount}
 use Rattle.matrix.specs.Numbers.{numbers}
-use Rattle.matrix.specs.Counts.{total, elementCount, additionCount, rowCount, matrixCount}
+use Rattle.matrix.specs.Counts.{elementCount, additionCount, rowCount, matrixCount}
 use Rattle.matrix.proofs.Tallies.{total-sum, total-rows, zero-line}
 use Rattle.gates.specs.Gates.{bit, isInput, inputsOf, outputs, joining, gatesOf, gatesFrom, gatesOfMatrix}
 use Rattle.gates.proofs.Bits.{at-bit}
@@ -153,7 +153,7 @@ pub gates-count : (p n : ℕ) (f : ℕ → ℕ → ℕ) → Modulus p → ((i j 
     → length (gatesOfMatrix p n f) ≡ matrixCount p n f
 unfolding gatesOfMatrix outputs
 gates-count p n f h small =
-    length-from (n * degree p) (outputs p n f)
+    length-from _ (outputs p n f)
     ∙ tabulate-sum Naturals naturals (λ l. length l - 1) (n * degree p) (λ o. inputsOf p n (f (o / degree p)) (o % degree p))
     ∙ sum-flat Naturals naturals (degree p) n (λ i b. length (inputsOf p n (f i) b) - 1)
     ∙ sum-cong Naturals n _ _ (λ i l. line-gates p n (f i) h (λ j m. small i j l m))

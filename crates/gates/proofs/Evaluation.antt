@@ -5,10 +5,11 @@ use mathlib.Core.Path.{_≡_, refl, sym, ap, ap₂, _∙_}
 use mathlib.Core.Bool.{cond}
 use mathlib.Core.Logic.{_⊎_, inl, inr, ⊎-elim}
 use mathlib.Core.List.{List, [], _∷_, _++_, map, List·Memᴰ, List·Memᴰ·head, List·Memᴰ·tail}
-use Prim.Native.Nat.{ℕ, zero, suc, _+_, _-_, _*_, _/_, _%_, _^_, _≤_, _<_}
-use native.Mathlib.Nat.{add-zero, add-suc, suc-add, zero-add, le-refl, mul-zero, mul-one, div-lt-iff-lt-mul}
+use Prim.Native.Nat.{ℕ, suc, _+_, _-_, _*_, _/_, _%_, _^_, _≤_, _<_}
+use native.Mathlib.Nat.{add-zero, add-suc, suc-add, le-refl, mul-zero, mul-one, div-lt-iff-lt-mul}
 use native.Mathlib.Omega.{arith}
 use borrow.Author.Tests.{ne-eqb}
+use lib.Arith.{digits-lt, digits-div, digits-mod}
 use lib.Dec.{eqb}
 use lib.ListN.{length, getD, length-append, List·getD-append}
 use lib.Seq.{getD-at}
@@ -18,7 +19,7 @@ use Rattle.algebra.proofs.Sums.{Additive, sum-cong, sum-flat}
 use Rattle.algebra.proofs.Weights.{getD-apply}
 use Rattle.algebra.proofs.Bridge.{map-tabulate}
 use Rattle.field.specs.Polynomial.{_⊕_, Modulus, degree, product}
-use Rattle.field.proofs.Sum.{sum-assoc, sum-comm, sum-zero-l, sum-zero-r}
+use Rattle.field.proofs.Sum.{sum-assoc, sum-comm, sum-zero-r}
 use Rattle.field.proofs.Degrees.{polynomial}
 use Rattle.matrix.specs.Numbers.{numbers, WordsInField}
 use Rattle.gates.specs.Gates.{bit, isInput, inputsOf, outputs, Gate, joining, gatesOf, carrierOf, gatesFrom, carriersFrom, gatesOfMatrix, carriersOfMatrix}
@@ -175,6 +176,13 @@ module _ (p : ℕ) (value : ℕ → ℕ) (bound : ℕ) where
 -- the value of input bit v of an input x
 abbrev pub bitAt : ℕ → List ℕ → ℕ → ℕ
 bitAt m x v = bit (v % m) (getD x (v / m) 0)
+
+-- bit j of word i has the number i·m + j
+pub bit-number : (m n : ℕ) (x : List ℕ) (i j : ℕ) → i < n → j < m → getD (bitsOf m n x) (i * m + j) 0 ≡ bit j (getD x i 0)
+unfolding bitsOf
+bit-number m n x i j h l =
+    getD-tabulate (n * m) (bitAt m x) (i * m + j) 0 (digits-lt h l)
+    ∙ ap₂ (λ (k w : ℕ). bit k (getD x w 0)) (digits-mod i l) (digits-div i l)
 
 -- the exclusive or of the inputs of an output bit is the bit of the line's product
 pub inputs-product : (p n b : ℕ) (line : ℕ → ℕ) (x : List ℕ) → Modulus p → WordsInField p n x

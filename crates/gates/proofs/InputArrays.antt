@@ -5,7 +5,7 @@ use mathlib.Core.List.{List, [], _∷_, _++_, append-nil}
 use Prim.Native.Nat.{ℕ, zero, suc, _+_, _-_, _*_, _≤_, _<_}
 use native.Mathlib.Nat.{add-zero}
 use native.Mathlib.Omega.{arith}
-use lib.ListN.{length, getD, take, set, replicate, length-append, length-replicate}
+use lib.ListN.{length, getD, take, set, replicate, length-append}
 use lib.Seq.{take-at}
 use Rattle.algebra.proofs.Words.{stored-more}
 use Rattle.field.specs.Polynomial.{degree}

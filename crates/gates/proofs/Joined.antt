@@ -1,17 +1,15 @@
 -- The inputs of an output bit are numbers of input bits and ascend (`outputs-inputs`). Every gate joins two different numbers that are smaller than
 -- its own (`gates-earlier`), and every output bit has a carrier (`carriers-there`). Assumes nothing.
-use mathlib.Core.Path.{_≡_, refl, sym, ap, _∙_}
+use mathlib.Core.Path.{_≡_, refl, ap}
 use mathlib.Core.Logic.{_≢_, _⊎_, inl, inr, ⊎-elim}
 use mathlib.Core.List.{List, [], _∷_, _++_, List·Memᴰ, List·Memᴰ·head, List·Memᴰ·tail}
 use Prim.Native.Nat.{ℕ, zero, suc, _+_, _*_, _/_, _%_, _≤_, _<_}
-use native.Mathlib.Nat.{le-of-suc-le-suc, not-suc-le-zero, add-zero, add-suc, suc-add, zero-add, le-refl}
+use native.Mathlib.Nat.{le-of-suc-le-suc, not-suc-le-zero, add-zero, add-suc, suc-add, le-refl}
 use native.Mathlib.Omega.{arith}
 use lib.ListN.{length, getD, length-append}
-use Rattle.algebra.specs.Matrix.{tabulate}
 use Rattle.algebra.proofs.Words.{length-tabulate, getD-tabulate, mem-tabulate}
 use Rattle.field.specs.Polynomial.{degree}
-use Rattle.field.specs.Table.{passing}
-use Rattle.field.proofs.Completeness.{Ascends, no-more, rise, member-passing, passing-ascends, ascends-above}
+use Rattle.field.proofs.Completeness.{Ascends, rise, member-passing, passing-ascends, ascends-above}
 use Rattle.gates.specs.Gates.{isInput, inputsOf, outputs, Gate, gate, joining, gatesOf, carrierOf, gatesFrom, carriersFrom, gatesOfMatrix, carriersOfMatrix}
 use Rattle.gates.specs.Netlist.{JoinsEarlier}
 use Rattle.gates.proofs.Counting.{length-joining}

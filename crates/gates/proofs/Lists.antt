@@ -8,7 +8,7 @@ use native.Mathlib.Omega.{arith}
 use lib.ListN.{length}
 use Rattle.algebra.specs.Operations.{Operations}
 use Rattle.algebra.specs.Matrix.{tabulate, sum}
-use Rattle.algebra.proofs.Sums.{Additive, Naturals, naturals, sum-cong, null-plus, sum-first}
+use Rattle.algebra.proofs.Sums.{Additive, Naturals, sum-cong, null-plus, sum-first}
 use Rattle.field.specs.Table.{keepIf, passing}
 
 -- the sum of g over a list

@@ -1,17 +1,13 @@
--- The gates of every matrix of order 1 to 8 over every field are what is promised of them (`netlist`), and their numbers have six digits
--- (`gates-small`, `carriers-small`). Assumes nothing.
+-- The gates of every matrix of order 1 to 8 over every field are what is promised of them (`netlist`). Assumes nothing.
 use mathlib.Core.Path.{_≡_, _∙_}
-use mathlib.Core.Logic.{⊎-elim}
-use mathlib.Core.List.{List}
 use Prim.Native.Nat.{ℕ, _+_, _*_, _^_, _≤_, _<_}
 use native.Mathlib.Nat.{mul-le-mul}
 use native.Mathlib.Omega.{arith}
-use lib.ListN.{length, getD}
+use lib.ListN.{length}
 use Rattle.field.specs.Polynomial.{Modulus, degree}
 use Rattle.field.proofs.Degrees.{polynomial}
-use Rattle.matrix.specs.Counts.{matrixCount}
 use Rattle.matrix.proofs.Tallies.{matrixCount-le}
-use Rattle.gates.specs.Gates.{Gate, gate, outputs, gatesOfMatrix, carriersOfMatrix}
+use Rattle.gates.specs.Gates.{outputs, gatesOfMatrix, carriersOfMatrix}
 use Rattle.gates.specs.Netlist.{Netlist}
 use Rattle.gates.proofs.Counting.{gates-count}
 use Rattle.gates.proofs.Joined.{length-outputs, gates-earlier, length-carriers, carriers-there}

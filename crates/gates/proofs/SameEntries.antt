@@ -1,17 +1,14 @@
 -- Only the entries below the order count: matrices with the same entries have the same gates and carriers. Assumes nothing.
-use mathlib.Core.Path.{_≡_, ap, _∙_}
-use mathlib.Core.List.{List}
+use mathlib.Core.Path.{_≡_, ap}
 use Prim.Native.Nat.{ℕ, _*_, _/_, _%_, _^_, _<_}
 use native.Mathlib.Nat.{div-lt-iff-lt-mul}
 use native.Mathlib.Omega.{arith}
 use lib.Dec.{eqb}
-use Rattle.algebra.specs.Matrix.{tabulate}
 use Rattle.algebra.proofs.Words.{tabulate-cong}
 use Rattle.field.specs.Polynomial.{Modulus, degree, product}
-use Rattle.field.specs.Table.{passing}
 use Rattle.field.proofs.Degrees.{polynomial}
 use Rattle.field.proofs.Completeness.{passing-cong}
-use Rattle.gates.specs.Gates.{bit, isInput, inputsOf, outputs, Gate, gatesFrom, carriersFrom, gatesOfMatrix, carriersOfMatrix}
+use Rattle.gates.specs.Gates.{bit, isInput, inputsOf, outputs, gatesFrom, carriersFrom, gatesOfMatrix, carriersOfMatrix}
 
 module _ (p n : ℕ) (h : Modulus p) where
   -- the word of a number below n·m

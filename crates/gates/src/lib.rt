@@ -27,7 +27,7 @@ fn has_bit(p: u16, a: u8, j: usize, b: usize) -> bool
 }
 
 // The inputs of bit b of the output of a line of n entries.
-pub fn inputs_of(p: u16, line: [u8; 8], n: usize, b: usize) -> Inputs
+fn inputs_of(p: u16, line: [u8; 8], n: usize, b: usize) -> Inputs
     requires { ⌜ Modulus p × (n ≤ 8) × WordsInField p n line × (b < 8) ⌝ }
     ensures { λ r. ⌜ r ≡ asInputs (inputsOf p n (λ j. getD line j 0) b) ⌝ }
 {

@@ -1,10 +1,10 @@
 -- `answer::answer_kind` meets its contract: each kind has its own part, and any other kind is refused with 2. Assumes nothing.
-use mathlib.Core.Path.{_∙_}
+use mathlib.Core.Logic.{inl, inr}
 use denote.Ref.{now}
 use Rattle.text.specs.Reading.{valuesFrom}
 use Rattle.answer.specs.Due.{Request, request}
-use Rattle.answer.proofs.DueFrom.{kind-due, kind-search, kind-check, kind-survey, kind-gates, kind-unknown}
-use Rattle.answer.proofs.GateLines.{asked-gates, asked-check}
+use Rattle.answer.proofs.DueFrom.{kind-due, kind-search, kind-survey, kind-unknown}
+use Rattle.answer.proofs.GateLines.{asked-kind}
 use Rattle.answer.proofs.Replies.{replied-as}
 use borrow.Author.Needs.{needs}
 use Rattle.answer.proofs.answer_kind.Statement.{statement}
@@ -23,9 +23,6 @@ of-matrix-requires c κs = search needs
 survey-requires : tie.Need-survey-requires
 survey-requires c κs = search needs
 
-of-matrix-requires-2 : tie.Need-of-matrix-requires-2
-of-matrix-requires-2 c κs = search needs
-
 refuse-requires : tie.Need-refuse-requires
 refuse-requires c κs = search needs
 
@@ -43,7 +40,7 @@ same-length-2 c = search needs
 returns-2 : tie.Need-returns-2
 returns-2 c =
     let called = c .before .before in
-    replied-as (kind-due (asked-check ∙ kind-check _ (called .before .before .match .keys2)) (asked (called .before .before .before .before .before)))
+    replied-as (kind-due (asked-kind _ (called .before .before .match .keys2)) (asked (called .before .before .before .before .before)))
     (called .of-matrix .ensures)
 
 same-length-3 : tie.Need-same-length-3
@@ -60,17 +57,8 @@ same-length-4 c = search needs
 returns-4 : tie.Need-returns-4
 returns-4 c =
     let called = c .before .before in
-    replied-as (kind-due (asked-gates ∙ kind-gates _ (called .before .before .match .keys4)) (asked (called .before .before .before .before .before)))
-    (called .of-matrix2 .ensures)
-
-same-length-5 : tie.Need-same-length-5
-same-length-5 c = search needs
-
-returns-5 : tie.Need-returns-5
-returns-5 c =
-    let called = c .before .before in
     let other = called .before .before .match .rest in
-    replied-as (kind-unknown _ _ (other .0 .0 .0 .1) (other .0 .0 .1) (other .0 .1) (other .1)) (called .refuse .ensures)
+    replied-as (kind-unknown _ _ (other .0 .0 .1) (λ e. other .0 .1 (inl e)) (other .1) (λ e. other .0 .1 (inr e))) (called .refuse .ensures)
 
 pub answer-kind-spec : {M : Type 1} → statement M
 answer-kind-spec =
@@ -79,7 +67,6 @@ answer-kind-spec =
     search-row-requires
     of-matrix-requires
     survey-requires
-    of-matrix-requires-2
     refuse-requires
     same-length
     returns
@@ -88,6 +75,4 @@ answer-kind-spec =
     same-length-3
     returns-3
     same-length-4
-    returns-4
-    same-length-5
-    returns-5)
+    returns-4)

@@ -1,5 +1,5 @@
--- The two kinds that ask about a matrix, as the code tells them apart: its gates, or what is found of it. `asked-gates` and `asked-check` of
--- proofs/GateLines.antt tie them to the table of kinds. Assumes nothing.
+-- The two kinds that ask about a matrix, as the code tells them apart: its gates, or what is found of it. `asked-kind` of proofs/GateLines.antt
+-- ties them to the table of kinds. Assumes nothing.
 use mathlib.Core.Bool.{Bool, true, false, cond}
 use mathlib.Core.List.{List}
 use Prim.Native.Nat.{ℕ}

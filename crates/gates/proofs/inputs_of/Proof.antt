@@ -1,11 +1,11 @@
 -- `gates::inputs_of` meets its contract. Assumes nothing.
-use mathlib.Core.Path.{_≡_, sym, ap, ap₂, _∙_}
+use mathlib.Core.Path.{_≡_, sym, ap₂, _∙_}
 use mathlib.Core.Logic.{⊎-elim}
-use Prim.Native.Nat.{ℕ, _-_, _*_, _/_, _%_, _^_, _≤_, _<_, zero-le}
+use Prim.Native.Nat.{_-_, _*_, _/_, _%_, _≤_, _<_, zero-le}
 use native.Mathlib.Nat.{mod-lt, div-lt-iff-lt-mul, mul-le-mul}
 use native.Mathlib.Omega.{arith}
 use lib.ListN.{getD}
-use Rattle.field.specs.Polynomial.{Modulus, degree}
+use Rattle.field.specs.Polynomial.{degree}
 use Rattle.field.specs.Table.{passing}
 use Rattle.field.proofs.Degrees.{polynomial}
 use Rattle.matrix.specs.Numbers.{WordsInField}

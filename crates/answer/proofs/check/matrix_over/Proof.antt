@@ -16,7 +16,7 @@ use Rattle.matrix.specs.Answers.{isWrongOrder}
 use Rattle.search.specs.Answer.{someTooLarge}
 use Rattle.text.specs.Reading.{valuesFrom}
 use Rattle.answer.specs.Due.{checkFaults, dueTo}
-use Rattle.answer.specs.Steps.Asked.{matrixLines, matrixKind}
+use Rattle.answer.specs.Steps.Asked.{matrixKind}
 use Rattle.answer.proofs.Replies.{replied-as}
 use Rattle.matrix.proofs.CallFaults.{order-passes}
 use Rattle.answer.proofs.Values.{count-wrong, count-right, value-small, place-below}

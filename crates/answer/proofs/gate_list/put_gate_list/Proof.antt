@@ -1,6 +1,6 @@
 -- `answer::gate_list::put_gate_list` meets its contract: line one, the gates and the carriers are the answer, whose length the matrix count tells.
 -- Assumes nothing.
-use mathlib.Core.Path.{_≡_, sym, ap, ap₂, _∙_}
+use mathlib.Core.Path.{_≡_, sym, ap, _∙_}
 use mathlib.Core.Bool.{true, false}
 use mathlib.Core.List.{List, [], _∷_, _++_}
 use Prim.Native.Nat.{ℕ, _+_, _*_, _^_, _≤_, _<_}
@@ -14,7 +14,7 @@ use Rattle.field.proofs.Calls.{elements-most}
 use Rattle.matrix.specs.Numbers.{entry, InField}
 use Rattle.matrix.proofs.Filled.{entry-of}
 use Rattle.matrix.proofs.Tallies.{matrixCount-le}
-use Rattle.gates.specs.Gates.{outputs, gatesOfMatrix}
+use Rattle.gates.specs.Gates.{outputs}
 use Rattle.gates.proofs.Counting.{gates-count}
 use Rattle.text.specs.Text.{lineText, answerText}
 use Rattle.text.specs.Reading.{valueAt}
@@ -163,41 +163,37 @@ carriers-length c =
     rw (c .degree .ensures)
     (length-carriers-text (start .args .p) (start .args .n) (entries (c .before .before)) (start .pre .0) (start .pre .2) (small (c .before .before)))
 
+-- behind line one there is room for the rest
+behind : (c : tie.After-put-line)
+    → let called = c .before .before .before .before in
+    (c .put-line .result ≡ 13) × (13 + 13 * called .before .matrix-count .result + 7 * (called .before .before .before .before .before .args .n * called .degree .result) ≤ length (c .put-line .last .0))
+behind c =
+    let called = c .before .before .before .before in
+    let line : List ℕ = 0 ∷ called .before .matrix-count .result ∷ [] in (
+      omega (arith, c .put-line .ensures .place, length-line line),
+      omega (arith, c .before .before .before .if1 .left, put-long (lineText line) (c .put-line .ensures)),
+    )
+
 put-outputs-requires : tie.Need-put-outputs-requires
 put-outputs-requires c κs =
     let written = c .before .before .before in
     let called = written .before .before .before .before in
-    let line : List ℕ = 0 ∷ called .before .matrix-count .result ∷ [] in (
-      modulus called,
-      order called,
-      inside called,
-      omega (
-        arith,
-        written .before .before .before .if1 .left,
-        written .put-line .ensures .place,
-        put-long (lineText line) (written .put-line .ensures),
-        length-line line,
-        gates-length called,
-      ),
-    )
+    (modulus called, order called, inside called, omega (arith, behind written .0, behind written .1, gates-length called))
 
 put-outputs-requires-2 : tie.Need-put-outputs-requires-2
 put-outputs-requires-2 c κs =
-    let behind = c .before .before .before in
-    let written = behind .before .before .before .before in
-    let called = written .before .before .before .before in
-    let line : List ℕ = 0 ∷ called .before .matrix-count .result ∷ [] in (
+    let gates = c .before .before .before in
+    let written = gates .before .before .before .before in
+    let called = written .before .before .before .before in (
       modulus called,
       order called,
       inside called,
       omega (
         arith,
-        written .before .before .before .if1 .left,
-        written .put-line .ensures .place,
-        put-long (lineText line) (written .put-line .ensures),
-        length-line line,
-        behind .put-outputs .ensures .place,
-        put-long (outputTexts false (first called) (outs called)) (behind .put-outputs .ensures),
+        behind written .0,
+        behind written .1,
+        gates .put-outputs .ensures .place,
+        put-long (outputTexts false (first called) (outs called)) (gates .put-outputs .ensures),
         gates-length called,
         carriers-length called,
       ),
@@ -209,12 +205,12 @@ same-length c = search needs
 returns-2 : tie.Need-returns-2
 returns-2 c =
     let ended = c .before .before in
-    let behind = ended .before .before .before .before in
-    let written = behind .before .before .before .before in
+    let gates = ended .before .before .before .before in
+    let written = gates .before .before .before .before in
     let called = written .before .before .before .before in
     let start = called .before .before .before .before .before in
     lines-written (gateLines (start .args .p) (start .args .n) (values (called .before .before))) (omega (arith, size called, written .before .before .before .if1 .left))
-    (rw (whole called) (put-join _ _ (written .put-line .ensures) (put-join _ _ (behind .put-outputs .ensures) (ended .put-outputs2 .ensures))))
+    (rw (whole called) (put-join _ _ (written .put-line .ensures) (put-join _ _ (gates .put-outputs .ensures) (ended .put-outputs2 .ensures))))
 
 pub put-gate-list-spec : {M : Type 1} → statement M
 put-gate-list-spec =

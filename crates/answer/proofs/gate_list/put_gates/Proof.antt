@@ -1,6 +1,6 @@
 -- `answer::gate_list::put_gates` meets its contract. The loop's invariant: what is left to write are the gates that join the inputs from k on.
 -- Assumes nothing.
-use mathlib.Core.Path.{_≡_, _∙_}
+use mathlib.Core.Path.{_≡_}
 use mathlib.Core.Bool.{false}
 use Prim.Native.Nat.{_+_, _-_, _≤_}
 use native.Mathlib.Nat.{le-trans}
@@ -26,17 +26,14 @@ Inv-loop space₀ at next inputs running₀ gate₀ place₀ k₀ space running 
 abbrev μ-loop : tie.MeasureT-loop
 μ-loop space₀ at next inputs running₀ gate₀ place₀ k₀ space running gate place k = length inputs - k
 
-lowest-requires : tie.Need-lowest-requires Inv-loop μ-loop
-lowest-requires c κs = search needs
+input-at-requires : tie.Need-input-at-requires Inv-loop μ-loop
+input-at-requires c κs = search needs
 
 loop-holds : tie.Need-loop-holds Inv-loop μ-loop
-loop-holds c = (search needs, le-trans (c .lowest .ensures .1) (lit≤ tt), search needs, gates-start _ _ _ _ _ (c .lowest .ensures .0))
+loop-holds c = (search needs, le-trans (c .input-at .ensures .1) (lit≤ tt), search needs, gates-start _ _ _ _ _ (c .input-at .ensures .0))
 
-shared-slice-read-wide : tie.Need-shared-slice-read-wide Inv-loop μ-loop
-shared-slice-read-wide c = search needs
-
-wide-requires : tie.Need-wide-requires Inv-loop μ-loop
-wide-requires c κs = search needs
+input-at-requires-2 : tie.Need-input-at-requires-2 Inv-loop μ-loop
+input-at-requires-2 c κs = search needs
 
 slice-aggregate-put-line : tie.Need-slice-aggregate-put-line Inv-loop μ-loop
 slice-aggregate-put-line c = search needs
@@ -44,11 +41,11 @@ slice-aggregate-put-line c = search needs
 put-line-requires : tie.Need-put-line-requires Inv-loop μ-loop
 put-line-requires c κs =
     let told = c .before .before in
-    let turn = told .before .before in
+    let turn = told .before in
     let at = turn .before in
     let start = at .before .before .before .before in (
       omega (arith, gates-room _ _ (now (start .args .inputs)) (at .loop .k) (at .loop .inv .3) (turn .loop-test .taken) (start .pre .2)),
-      six-more _ (at .loop .inv .1) (six-more _ (le-trans (told .wide .ensures .1) (lit≤ tt)) six-none),
+      six-more _ (at .loop .inv .1) (six-more _ (le-trans (told .input-at2 .ensures .1) (lit≤ tt)) six-none),
     )
 
 add-gate : tie.Need-add-gate Inv-loop μ-loop
@@ -63,13 +60,13 @@ loop-less c = search needs
 loop-again : tie.Need-loop-again Inv-loop μ-loop
 loop-again c =
     let told = c .before .before .before .before .before in
-    let turn = told .before .before in
+    let turn = told .before in
     let at = turn .before in
     let start = at .before .before .before .before in (
       omega (arith, at .loop .inv .0),
       omega (arith, at .loop .inv .2, start .pre .0, start .pre .1, turn .loop-test .taken),
       omega (arith, at .loop .inv .2, at .loop .inv .0),
-      gates-step _ _ (now (start .args .inputs)) (at .loop .k) (at .loop .inv .3) (turn .loop-test .taken) (told .wide .ensures .0) (c .before .before .put-line .ensures),
+      gates-step _ _ (now (start .args .inputs)) (at .loop .k) (at .loop .inv .3) (turn .loop-test .taken) (told .input-at2 .ensures .0) (c .before .before .put-line .ensures),
     )
 
 same-length : tie.Need-same-length Inv-loop μ-loop
@@ -86,10 +83,9 @@ put-gates-spec =
     (tie.spec
     Inv-loop
     μ-loop
-    lowest-requires
+    input-at-requires
     loop-holds
-    shared-slice-read-wide
-    wide-requires
+    input-at-requires-2
     slice-aggregate-put-line
     put-line-requires
     add-gate

@@ -10,11 +10,11 @@ use lib.Seq.{length-take-le}
 use Rattle.field.specs.Polynomial.{degree}
 use Rattle.field.proofs.Degrees.{polynomial}
 use Rattle.matrix.specs.Numbers.{entry}
-use Rattle.gates.specs.Gates.{inputsOf, outputs}
+use Rattle.gates.specs.Gates.{outputs}
 use Rattle.gates.proofs.InputArrays.{inputs-few, inputs-take, inputs-count-is, inputs-fit}
 use Rattle.gates.proofs.Joined.{length-outputs, output-at}
 use Rattle.text.proofs.Places.{Rest, rest-start}
-use Rattle.answer.specs.Steps.Outputs.{outputText, outputTexts}
+use Rattle.answer.specs.Steps.Outputs.{outputTexts}
 use Rattle.answer.proofs.GateLines.{outputs-room, outputs-step, outputs-finish}
 use borrow.Author.Needs.{needs}
 use Rattle.answer.proofs.gate_list.put_outputs.Statement.{statement}
@@ -23,7 +23,7 @@ use Rattle.answer.proofs.gate_list.put_outputs.Tie as tie
 abbrev Inv-loop : tie.InvT-loop
 Inv-loop space₀ at p m n carriers bits next₀ place₀ o₀ space next place o =
     (o ≤ bits)
-    × (next ≤ 64 + 63 * o)
+    × (next ≤ 100 + 63 * o)
     × Rest space₀ at (outputTexts carriers (n * degree p) (outputs p n (entry m))) space place (outputTexts carriers next (drop o (outputs p n (entry m))))
 
 abbrev μ-loop : tie.MeasureT-loop
