@@ -134,7 +134,7 @@ and-texts d h e rest = _and_ {line = texts _ _} (d, h, e) rest
 -- the elements, the searches, the example and the checks, line by line
 elements-hold : AllReferenceSay elementLines
 unfolding ReferenceSays elementLines power det sum without skip entriesOf matrixCount rowCount elementCount additionCount total weight tabulate xorCount onesInColumns ones onesIn product rem reduce degree overDigits digitsWithin _⊗_ _⊕_
-elements-hold = refl and refl and refl and refl and refl and refl and refl and refl and refl and all-none
+elements-hold = refl and refl and refl and refl and refl and refl and refl and refl and refl and refl and all-none
 
 searches-hold : AllReferenceSay searches
 unfolding ReferenceSays searches fits allSix isOutside isIrreducible someBelow searchFaults polynomialFaults firstNumber isWrongSearchOrder isWrongSearchCount someTooLarge isTooLarge someBad someRepeated member sumOf rowLines rowCount elementCount additionCount total weight tabulate xorCount onesInColumns ones onesIn product rem reduce degree overDigits digitsWithin _⊗_ _⊕_
@@ -177,6 +177,7 @@ gate-lists-hold =
     and refl
     and refl
     and is-due 4 3 1 _ refl _ (fixed 4 _ (λ h. omega arith)) refl
+    and is-due 4 5 1 _ refl _ (fixed 4 _ (λ h. omega arith)) refl
     and is-due 4 7 0 _ refl _ (fixed 4 _ (λ h. omega arith)) refl
     and is-due 4 7 9 _ refl _ (fixed 4 _ (λ h. omega arith)) refl
     and is-due 4 7 2 _ refl _ (fixed 4 _ (λ h. omega arith)) refl

@@ -1,5 +1,5 @@
--- The reference lines of document 01 that are marked P, as one table, with gate lists of document 02, with the limits of its last point, its example of a search,
--- whole, and lines that tell apart what the others cannot. Assumes nothing.
+-- The reference lines of document 01 that are marked P, as one table, with the limits of its last point, its example of a search,
+-- whole, the gate lists of request Two, and lines that tell apart what the others cannot. Assumes nothing.
 use mathlib.Core.Path.{_≡_}
 use mathlib.Core.Logic.{_≢_}
 use mathlib.Core.List.{List, [], _∷_, _++_, map, foldl}
@@ -82,8 +82,8 @@ pub data AllReferenceSay : List ReferenceLine → Type 0 where
   all-none : AllReferenceSay []
   _and_ : {line : ReferenceLine} {rest : List ReferenceLine} → ReferenceSays line → AllReferenceSay rest → AllReferenceSay (line ∷ rest)
 
--- elements over 19, and over 31; determinants; the counts of a matrix whose lines have no, one and three nonzero entries, of the FIPS 197 matrix and
--- of its upper triangle
+-- elements over 19, and over 31; determinants; the counts of a matrix whose lines have no, one and three nonzero entries, of the FIPS 197 matrix, of
+-- the matrix with the longest gate list, and of the upper triangle of the FIPS 197 matrix
 unfoldable pub elementLines : List ReferenceLine
 elementLines =
     counts 19 (0 ∷ 1 ∷ 2 ∷ 3 ∷ 4 ∷ 5 ∷ 6 ∷ 7 ∷ 8 ∷ 9 ∷ 10 ∷ 11 ∷ 12 ∷ 13 ∷ 14 ∷ 15 ∷ []) (0 ∷ 0 ∷ 1 ∷ 5 ∷ 2 ∷ 6 ∷ 5 ∷ 9 ∷ 3 ∷ 1 ∷ 8 ∷ 6 ∷ 5 ∷ 3 ∷ 8 ∷ 6 ∷ []) ∷
@@ -94,6 +94,7 @@ elementLines =
     determinants 19 3 (1 ∷ 2 ∷ 3 ∷ 4 ∷ 5 ∷ 6 ∷ 7 ∷ 8 ∷ 9 ∷ []) 9 ∷
     matrix-counts 19 3 (0 ∷ 0 ∷ 0 ∷ 0 ∷ 7 ∷ 0 ∷ 1 ∷ 2 ∷ 3 ∷ []) 23 ∷
     matrix-counts 283 4 (2 ∷ 3 ∷ 1 ∷ 1 ∷ 1 ∷ 2 ∷ 3 ∷ 1 ∷ 1 ∷ 1 ∷ 2 ∷ 3 ∷ 3 ∷ 1 ∷ 1 ∷ 2 ∷ []) 152 ∷
+    matrix-counts 395 8 (replicate 64 251) 3136 ∷
     matrix-counts 283 4 (2 ∷ 3 ∷ 1 ∷ 1 ∷ 0 ∷ 2 ∷ 3 ∷ 1 ∷ 0 ∷ 0 ∷ 2 ∷ 3 ∷ 0 ∷ 0 ∷ 0 ∷ 2 ∷ []) 93 ∷
     []
 
@@ -120,8 +121,8 @@ checks =
     []
 
 -- gates over 7 (document 02, Two): a matrix that is not its own transpose, whose first output bit joins three inputs; one input alone; a bit that
--- is always 0. Over 11, order 2: three bits to a word, and output bits of the second word. What the first list computes, on the words 1 2 (3 2) and 3 3 (3 3).
--- The same refusals as of a check; kind 5 is none
+-- is always 0. Over 11, order 2: three bits to a word, and output bits of the second word. What the first list computes: the words 1 2 give 3 2,
+-- the words 3 3 give 3 3. The refusals of a check; kind 5 is none
 unfoldable pub gateLists : List ReferenceLine
 gateLists =
     requests 4 7 2 (2 ∷ 3 ∷ 0 ∷ 1 ∷ [])
@@ -134,6 +135,7 @@ gateLists =
     evaluations 7 2 (2 ∷ 3 ∷ 0 ∷ 1 ∷ []) (1 ∷ 1 ∷ 1 ∷ 1 ∷ []) (1 ∷ 1 ∷ 1 ∷ 1 ∷ []) ∷
     evaluations 7 1 (0 ∷ []) (1 ∷ 1 ∷ []) (0 ∷ 0 ∷ []) ∷
     requests 4 3 1 (0 ∷ []) (answer 3 []) ∷
+    requests 4 5 1 (0 ∷ []) (answer 4 []) ∷
     requests 4 7 0 [] (answer 5 []) ∷
     requests 4 7 9 [] (answer 5 []) ∷
     requests 4 7 2 (1 ∷ 1 ∷ 1 ∷ []) (answer 6 []) ∷

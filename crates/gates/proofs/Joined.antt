@@ -53,31 +53,32 @@ output-inputs p n f o l = rw (output-at p n f o l) (inputs-list p n (o % degree 
 -- ---- gates
 
 -- gates with the numbers from this one on
-data AllEarlier : ℕ → List Gate → Type 0 where
-  none-joins : {number : ℕ} → AllEarlier number []
-  also-joins : {number : ℕ} {g : Gate} {gates : List Gate} → JoinsEarlier number g → AllEarlier (suc number) gates → AllEarlier number (g ∷ gates)
+data AllEarlier (bits : ℕ) : ℕ → List Gate → Type 0 where
+  none-joins : {number : ℕ} → AllEarlier bits number []
+  also-joins : {number : ℕ} {g : Gate} {gates : List Gate} → JoinsEarlier bits number g → AllEarlier bits (suc number) gates → AllEarlier bits number (g ∷ gates)
 
-earlier-at : {number : ℕ} {gates : List Gate} → AllEarlier number gates → (k : ℕ) → k < length gates → JoinsEarlier (number + k) (getD gates k (gate 0 0))
+earlier-at : {bits number : ℕ} {gates : List Gate} → AllEarlier bits number gates → (k : ℕ) → k < length gates → JoinsEarlier bits (number + k) (getD gates k (gate 0 0))
 earlier-at none-joins k l = absurd (not-suc-le-zero l)
-earlier-at {number} (also-joins h rest) zero l = rw (add-zero number) h
-earlier-at {number} (also-joins h rest) (suc k) l = rw (add-suc number k, ← suc-add number k) (earlier-at rest k (le-of-suc-le-suc l))
+earlier-at {number = number} (also-joins h rest) zero l = rw (add-zero number) h
+earlier-at {number = number} (also-joins h rest) (suc k) l = rw (add-suc number k, ← suc-add number k) (earlier-at rest k (le-of-suc-le-suc l))
 
-earlier-append : {number : ℕ} {gates more : List Gate} → AllEarlier number gates → AllEarlier (number + length gates) more → AllEarlier number (gates ++ more)
-earlier-append {number} none-joins k = rw (add-zero number) at k
-earlier-append {number} (also-joins {gates = gates} h rest) k =
+earlier-append : {bits number : ℕ} {gates more : List Gate} → AllEarlier bits number gates → AllEarlier bits (number + length gates) more
+    → AllEarlier bits number (gates ++ more)
+earlier-append {number = number} none-joins k = rw (add-zero number) at k
+earlier-append {number = number} (also-joins {gates = gates} h rest) k =
     also-joins h (earlier-append rest (rw (add-suc number (length gates), ← suc-add number (length gates)) at k))
 
 -- inputs joined to a running result that is none of them
 joining-earlier : (bound next running : ℕ) (l : List ℕ) → bound ≤ next → running < next
-    → ((v : ℕ) → List·Memᴰ v l → (v < bound) × (running ≢ v)) → AllEarlier next (joining next running l)
+    → ((v : ℕ) → List·Memᴰ v l → (v < bound) × (running ≢ v)) → AllEarlier bound next (joining next running l)
 unfolding joining
 joining-earlier bound next running [] b r h = none-joins
 joining-earlier bound next running (v ∷ l) b r h =
     let first = h v (List·Memᴰ·head refl) in
-    also-joins (record { different = first .1; running-earlier = r; input-earlier = omega arith })
+    also-joins (record { different = first .1; running-earlier = r; input-earlier = omega arith; is-input = first .0 })
     (joining-earlier bound (suc next) next l (omega arith) (le-refl (suc next)) (λ u m. let k = h u (List·Memᴰ·tail m) in (k .0, λ e. omega arith)))
 
-of-earlier : (bound next : ℕ) (l : List ℕ) → bound ≤ next → InputList bound l → AllEarlier next (gatesOf next l)
+of-earlier : (bound next : ℕ) (l : List ℕ) → bound ≤ next → InputList bound l → AllEarlier bound next (gatesOf next l)
 unfolding gatesOf
 of-earlier bound next [] b h = none-joins
 of-earlier bound next (v ∷ l) b h =
@@ -87,16 +88,16 @@ of-earlier bound next (v ∷ l) b h =
     behind : Ascends 0 (v ∷ l) → (u : ℕ) → List·Memᴰ u l → v < u
     behind (rise k a) u m = ascends-above a m
 
-from-earlier : (bound next : ℕ) (outs : List (List ℕ)) → bound ≤ next → InputLists bound outs → AllEarlier next (gatesFrom next outs)
+from-earlier : (bound next : ℕ) (outs : List (List ℕ)) → bound ≤ next → InputLists bound outs → AllEarlier bound next (gatesFrom next outs)
 unfolding gatesFrom
 from-earlier bound next [] b h = none-joins
 from-earlier bound next (l ∷ outs) b h =
     earlier-append (of-earlier bound next l b (h l (List·Memᴰ·head refl)))
     (from-earlier bound (next + length (gatesOf next l)) outs (omega arith) (λ k m. h k (List·Memᴰ·tail m)))
 
--- every gate joins two different numbers smaller than its own
+-- every gate joins two different numbers smaller than its own, the second of them an input
 pub gates-earlier : (p n : ℕ) (f : ℕ → ℕ → ℕ) (k : ℕ) → k < length (gatesOfMatrix p n f)
-    → JoinsEarlier (n * degree p + k) (getD (gatesOfMatrix p n f) k (gate 0 0))
+    → JoinsEarlier (n * degree p) (n * degree p + k) (getD (gatesOfMatrix p n f) k (gate 0 0))
 unfolding gatesOfMatrix
 gates-earlier p n f =
     earlier-at (from-earlier (n * degree p) (n * degree p) (outputs p n f) (le-refl (n * degree p)) (outputs-inputs p n f))

@@ -11,11 +11,12 @@ use Rattle.matrix.specs.Counts.{matrixCount}
 use Rattle.gates.specs.Gates.{Gate, gate, gatesOfMatrix, carriersOfMatrix}
 use Rattle.gates.specs.Wires.{bitsOf, evaluate}
 
--- the gate with this number joins two different numbers, both smaller than its own
-pub record JoinsEarlier (number : ℕ) (g : Gate) : Type 0 where
+-- the gate with this number joins two different numbers, both smaller than its own, the second of them one of the input bits
+pub record JoinsEarlier (bits number : ℕ) (g : Gate) : Type 0 where
   pub different : g .running ≢ g .input
   pub running-earlier : g .running < number
   pub input-earlier : g .input < number
+  pub is-input : g .input < bits
 
 -- the bits of the product with an input x
 abbrev pub productBits : ℕ → ℕ → (ℕ → ℕ → ℕ) → List ℕ → List ℕ
@@ -27,8 +28,8 @@ pub record Netlist (p n : ℕ) (f : ℕ → ℕ → ℕ) : Type 0 where
       → evaluate (gatesOfMatrix p n f) (carriersOfMatrix p n f) (bitsOf (degree p) n x) ≡ productBits p n f x
   -- "the number of gates equals the matrix count"
   pub gates-counted : length (gatesOfMatrix p n f) ≡ matrixCount p n f
-  -- every gate joins two different numbers smaller than its own; the first has the number n·m
-  pub gates-join : (k : ℕ) → k < length (gatesOfMatrix p n f) → JoinsEarlier (n * degree p + k) (getD (gatesOfMatrix p n f) k (gate 0 0))
+  -- every gate joins two different numbers smaller than its own, the running result and then an input; the first gate has the number n·m
+  pub gates-join : (k : ℕ) → k < length (gatesOfMatrix p n f) → JoinsEarlier (n * degree p) (n * degree p + k) (getD (gatesOfMatrix p n f) k (gate 0 0))
   -- "a line for each output bit"
   pub carriers-counted : length (carriersOfMatrix p n f) ≡ n * degree p
   -- each carrier is an input, a gate, or 999999
