@@ -368,6 +368,8 @@ class Ask(Place):
         self.refused(3, self.BRIEF, self.program("exec cat"))
         self.refused(3, self.BRIEF, self.program("while :; do echo yes; done"))
         self.refused(3, ["survey", "4"], self.program("printf '     0     2\\n    19    68   416\\n'"))
+        for lines in ("    13    15    47\\n    11    15    47", "    11    15    47\\n    11    15    47"):
+            self.refused(3, ["survey", "3"], self.program(f"printf '     0     2\\n{lines}\\n'"))
 
     def test_a_lost_answer(self):
         answer = self.program("printf '     9\\n'")

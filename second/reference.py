@@ -1,5 +1,5 @@
-"""The reference lines of document 01, with the counts of request One and the gates of request Two, as whole request and answer
-texts; a text for each refusal."""
+"""The reference lines of document 01, with the counts of request One, the gates of request Two and the order of request Three, as
+whole request and answer texts; a text for each refusal."""
 from rowtext import ALWAYS_ZERO, CHECK, GATES, SEARCH, SURVEY, circulant, hadamard, line, request
 
 WORKED_REQUEST = b"     1    19     4     4\n     1     4     9    13\n"
@@ -52,7 +52,11 @@ def zero_lines():
 
 
 def survey_lines():
+    """The lines ascend by polynomial."""
     yield "survey of degree 2", request(SURVEY, 2, 0, []), line([0, 1]) + line([7, 2, 2])
+    yield "survey of degree 3", request(SURVEY, 3, 0, []), line([0, 2]) + line([11, 15, 47]) + line([13, 15, 47])
+    of_degree_four = line([0, 3]) + line([19, 68, 416]) + line([25, 68, 416]) + line([31, 68, 352])
+    yield "survey of degree 4", request(SURVEY, 4, 0, []), of_degree_four
 
 
 TWO_LINES = request(GATES, 7, 2, [2, 3, 0, 1])

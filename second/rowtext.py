@@ -147,16 +147,6 @@ class Server:
         self.process.wait()
 
 
-def same_answer(text, one, other):
-    """Equal bytes. The order of a survey's lines is open, so those are compared as sets that hold each line once."""
-    if one == other:
-        return True
-    if not text.startswith(b"     3"):
-        return False
-    first, second = one.splitlines(True), other.splitlines(True)
-    return first[:1] == second[:1] and sorted(first[1:]) == sorted(second[1:])
-
-
 def printed_matrices():
     """The matrices of vectors/matrices.json."""
     with open(os.path.join(ROOT, "vectors", "matrices.json"), encoding="utf8") as f:

@@ -105,7 +105,7 @@ def check(polynomial, matrix):
 def survey(degree):
     """All irreducible polynomials of a degree from 2 to 8, in ascending order."""
     _, *lines = numbers(answer(request(SURVEY, degree, 0, [])))
-    return sorted(Polynomial(*found) for found in lines)
+    return [Polynomial(*found) for found in lines]
 
 
 def gates(polynomial, matrix):

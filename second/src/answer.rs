@@ -197,6 +197,17 @@ mod tests {
         }
     }
 
+    /// As many as `reference_surveys` says, so these are all.
+    #[test]
+    fn survey_lines_ascend_by_polynomial() {
+        assert_eq!(ask(3, 3, 0, &[]), [0, 2, 11, 15, 47, 13, 15, 47]);
+        for m in 2..=8 {
+            let listed: Vec<u32> = ask(3, m, 0, &[])[2..].chunks(3).map(|l| l[0]).collect();
+            assert!(listed.windows(2).all(|pair| pair[0] < pair[1]));
+            assert!(listed.iter().all(|&p| degree(p) == m && irreducible(p)));
+        }
+    }
+
     #[test]
     fn reference_gates() {
         assert_eq!(ask(4, 7, 2, &[2, 3, 0, 1]), [0, 4, 1, 2, 4, 3, 0, 1, 6, 2, 5, 7, 2, 3]);

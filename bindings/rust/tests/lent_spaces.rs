@@ -52,10 +52,18 @@ fn an_accepted_check() {
 }
 
 #[test]
-fn a_survey_of_one_polynomial() {
-    let request = text(&[&[3, 2, 0, 0]]);
-    let expected = text(&[&[0, 1], &[7, 2, 2]]);
-    check_spaces(&request, &expected, 0, expected.len() + 1);
+fn surveys_by_polynomial() {
+    let surveys: [(Vec<u8>, Vec<u8>); 3] = [
+        (text(&[&[3, 2, 0, 0]]), text(&[&[0, 1], &[7, 2, 2]])),
+        (text(&[&[3, 3, 0, 0]]), text(&[&[0, 2], &[11, 15, 47], &[13, 15, 47]])),
+        (
+            text(&[&[3, 4, 0, 0]]),
+            text(&[&[0, 3], &[19, 68, 416], &[25, 68, 416], &[31, 68, 352]]),
+        ),
+    ];
+    for (request, expected) in surveys {
+        check_spaces(&request, &expected, 0, expected.len() + 1);
+    }
 }
 
 #[test]

@@ -22,10 +22,10 @@ use Rattle.search.proofs.Demands.{demand-three, demand-three-none, demand-three
 use Rattle.text.specs.Text.{lineText, answerText}
 use Rattle.text.specs.Reading.{kindOf, polynomialOf, orderOf}
 use Rattle.answer.specs.Due.{rowLines, bestLines, faultsOf, due}
-use Rattle.answer.specs.Answered.{numberReturned, lengthReturned, writtenAt, Leaves, Answered}
+use Rattle.answer.specs.Answered.{numberReturned, lengthReturned, writtenAt, Replied, Answered}
 use Rattle.answer.specs.Demands.{WellFormedSearch, NoRow, DemandedBy, rowText, SearchDue, row-due, none-due, RowFits, RowTooLong, RowStands, SearchAnswered, Faultless, Lowest, refused, none, accepted, too-short}
 use Rattle.answer.proofs.EveryKind.{faults-numbered, faults-ascend, faults-to-nine, nine-is-search, due-number}
-use Rattle.answer.proofs.Demands.{may-same, FirstFault, at-fault, with-room, without-room, first-fault}
+use Rattle.answer.proofs.Demands.{FirstFault, at-fault, with-room, without-room, first-fault}
 use Rattle.answer.proofs.Limits.{limits-exactly, stated-applies, well-formed-exactly}
 use Rattle.answer.proofs.WellFormed.{best, only-nine, passed}
 
@@ -121,10 +121,9 @@ data SearchLeaves (text space after : List ℕ) (number size : ℕ) : Type 0 whe
   none-left : NoRow text → number ≡ 9 → (after ≡ writtenAt (lineText (9 ∷ [])) space) × (size ≡ 0) → SearchLeaves text space after number size
 
 module _ {text space after : List ℕ} {number size : ℕ} where
-  left-by : {d : Answer (List (List ℕ))} {written : List (List ℕ)} → SearchDue text d → written ≡ d .value → Leaves d written space after number size
-      → SearchLeaves text space after number size
-  left-by (none-due h) e l = none-left h (l .number-is) (l .bytes, l .size-is ∙ ap (λ (k : ℕ). lengthReturned k (length (answerText []))) (l .number-is))
-  left-by (row-due r h) e l = go (leb long (length space)) refl
+  left-by : {d : Answer (List (List ℕ))} → SearchDue text d → Replied d space after number size → SearchLeaves text space after number size
+  left-by (none-due h) l = none-left h (l .number-is) (l .bytes, l .size-is ∙ ap (λ (k : ℕ). lengthReturned k (length (answerText []))) (l .number-is))
+  left-by (row-due r h) l = go (leb long (length space)) refl
     where
       long : ℕ
       long = length (rowText text r)
@@ -135,7 +134,6 @@ module _ {text space after : List ℕ} {number size : ℕ} where
       bytes-at : (t : Bool) → leb long (length space) ≡ t → after ≡ cond t (rowText text r ++ drop long space) space
       bytes-at t f =
           l .bytes
-          ∙ ap (λ (w : List (List ℕ)). writtenAt (answerText w) space) e
           ∙ ap (λ (t : Bool). cond t (rowText text r ++ drop long space) space) f
 
       go : (t : Bool) → leb long (length space) ≡ t → SearchLeaves text space after number size
@@ -202,8 +200,7 @@ module _ {text space after : List ℕ} {number size : ℕ} where
       }
     where
       left : WellFormedSearch text → SearchLeaves text space after number size
-      left w =
-          left-by (demand-three-text text w) (may-same (a .allowed) (λ e. let kind = w .kind-one in let y : ⊥ = omega arith in y)) (a .leaves)
+      left w = left-by (demand-three-text text w) (a .reply)
 
       at-zero : kindOf text ≡ 1 → number ≡ 0 → WellFormedSearch text
       at-zero kind z = not-refused a kind (λ h l. omega arith)
@@ -214,7 +211,7 @@ module _ {text space after : List ℕ} {number size : ℕ} where
       nine : (number ≡ 9) ↔ (WellFormedSearch text × NoRow text)
       nine =
           let returned = returned-nine (due text .number) _ in
-          (λ e. none-exactly text .0 (returned .0 (sym (a .leaves .number-is) ∙ e)), λ h. a .leaves .number-is ∙ returned .1 (none-exactly text .1 h))
+          (λ e. none-exactly text .0 (returned .0 (sym (a .reply .number-is) ∙ e)), λ h. a .reply .number-is ∙ returned .1 (none-exactly text .1 h))
 
   pub none-answered : Answered text space after number size → WellFormedSearch text → (number ≡ 9) ↔ NoRow text
   none-answered a w = let nine = search-answered a .nine-exactly in (λ e. nine .0 e .1, λ h. nine .1 (w, h))

@@ -1,7 +1,7 @@
--- Demand 1 as theorems. `one-answer`: number, length and, for a search or a check, every byte are fixed by the request and the lent space.
+-- Demand 1 as theorems, of every kind. `one-answer`: number, length and every byte are fixed by the request and the lent space.
 -- `any-space`: the answer text of an accepted request and the number of a refused one do not depend on the lent space, 10 apart.
--- `same-lines`: of two calls the lines written are the same, a survey's up to their order. `first-fault`: the number is that of
--- the first fault. `bytes-left`: every byte of the lent space, by the number. `refusal-length`: the length is 0 with every refusal. Assumes nothing.
+-- `first-fault`: the number is that of the first fault. `bytes-left`: every byte of the lent space, by the number.
+-- `refusal-length`: the length is 0 with every refusal. Assumes nothing.
 use mathlib.Core.Path.{_≡_, refl, sym, ap, _∙_}
 use mathlib.Core.Bool.{Bool, true, false, cond}
 use mathlib.Core.List.{List, [], _∷_, _++_}
@@ -15,51 +15,11 @@ use lib.Seq.{take-at}
 use Rattle.refusal.specs.Refusals.{firstNumber, Applies}
 use Rattle.refusal.proofs.Faults.{first-applies, first-none, first-lowest}
 use Rattle.text.specs.Text.{lineText, answerText}
-use Rattle.text.specs.Reading.{kindOf}
 use Rattle.text.proofs.Lengths.{length-line}
 use Rattle.answer.specs.Due.{faultsOf, due}
-use Rattle.answer.specs.Answered.{Rearranged, same, more, swapped, further, MayWrite, due-lines, survey-lines, textOf, numberReturned, lengthReturned, writtenAt, Answered}
+use Rattle.answer.specs.Answered.{textOf, numberReturned, lengthReturned, writtenAt, Answered}
 use Rattle.answer.specs.Demands.{OneAnswer, BytesLeft, AnySpace}
 use Rattle.answer.proofs.EveryKind.{faults-numbered, faults-ascend, due-number, due-most}
-
--- ---- the lines written
-
--- only a survey's lines may stand in another order
-pub may-same : {kind : ℕ} {l w : List (List ℕ)} → MayWrite kind l w → (kind ≡ 3 → ⊥) → w ≡ l
-may-same due-lines h = refl
-may-same (survey-lines r) h = absurd (h refl)
-
-back : {l r : List (List ℕ)} → Rearranged l r → Rearranged r l
-back same = same
-back (more r) = more (back r)
-back swapped = swapped
-back (further r s) = further (back s) (back r)
-
-pub may-rearranged : {kind : ℕ} {l w : List (List ℕ)} → MayWrite kind l w → Rearranged l w
-may-rearranged due-lines = same
-may-rearranged (survey-lines r) = more r
-
--- of two that may be written where the same lines are due, one may be written where the other is due
-may-both : {kind : ℕ} {l w w′ : List (List ℕ)} → MayWrite kind l w → MayWrite kind l w′ → MayWrite kind w w′
-may-both due-lines m = m
-may-both (survey-lines r) due-lines = survey-lines (back r)
-may-both (survey-lines r) (survey-lines s) = survey-lines (further (back r) s)
-
--- the order of lines does not change the length
-pub rearranged-length : {l r : List (List ℕ)} → Rearranged l r → length (answerText l) ≡ length (answerText r)
-unfolding answerText
-rearranged-length same = refl
-rearranged-length (more {x = x} {l = l} {r = r} s) =
-    omega (arith, rearranged-length s, length-append (lineText x) (answerText l), length-append (lineText x) (answerText r))
-rearranged-length (swapped {x = x} {y = y} {l = l}) =
-    omega (
-      arith,
-      length-append (lineText x) (lineText y ++ answerText l),
-      length-append (lineText y) (answerText l),
-      length-append (lineText y) (lineText x ++ answerText l),
-      length-append (lineText x) (answerText l),
-    )
-rearranged-length (further s t) = rearranged-length s ∙ rearranged-length t
 
 -- ---- number, length and bytes of one call
 
@@ -117,31 +77,30 @@ module _ {text space after : List ℕ} {number size : ℕ} (a : Answered text sp
   long = length (answerText (due text .value))
 
   -- accepted: nothing is refused, the answer fits, and its length is returned
-  accepted-due : number ≡ 0 → (due text .number ≡ 0) × (long ≤ length space) × (size ≡ long)
+  pub accepted-due : number ≡ 0 → (due text .number ≡ 0) × (long ≤ length space) × (size ≡ long)
   accepted-due z =
-      let (e, f) = returned-zero (due text .number) (leb long (length space)) (sym (a .leaves .number-is) ∙ z) in
-      (e, leb-true long (length space) f, a .leaves .size-is ∙ ap (λ (n : ℕ). lengthReturned n long) z)
+      let (e, f) = returned-zero (due text .number) (leb long (length space)) (sym (a .reply .number-is) ∙ z) in
+      (e, leb-true long (length space) f, a .reply .size-is ∙ ap (λ (n : ℕ). lengthReturned n long) z)
 
   -- the answer text stands at the start
-  pub accepted-text : number ≡ 0 → take size after ≡ answerText (a .written)
+  pub accepted-text : number ≡ 0 → take size after ≡ answerText (due text .value)
   accepted-text z =
       let (e, fits, is-long) = accepted-due z in
-      let lines = rearranged-length (may-rearranged (a .allowed)) in
-      ap (take size) (a .leaves .bytes ∙ ap (λ (m : ℕ). writtenAt (textOf m (a .written)) space) e)
-      ∙ front (answerText (a .written)) space size (omega arith) (omega arith)
+      ap (take size) (a .reply .bytes ∙ ap (λ (m : ℕ). writtenAt (textOf m (due text .value)) space) e)
+      ∙ front (answerText (due text .value)) space size (omega arith) (omega arith)
 
   -- refused with 1 to 9: that is due
   refused-due : (number ≡ 0 → ⊥) → (number ≡ 10 → ⊥) → due text .number ≡ number
   refused-due f g =
-      let is = a .leaves .number-is in
+      let is = a .reply .number-is in
       returned-refusal (due text .number) (leb long (length space)) (λ e. f (is ∙ e)) (λ e. g (is ∙ e)) ∙ sym is
 
   -- its line is written, where it fits
   told : (number ≡ 0 → ⊥) → (number ≡ 10 → ⊥) → after ≡ writtenAt (lineText (number ∷ [])) space
   told f g =
-      a .leaves .bytes
-      ∙ ap (λ (m : ℕ). writtenAt (textOf m (a .written)) space) (refused-due f g)
-      ∙ ap (λ (l : List ℕ). writtenAt l space) (text-told number (a .written) f)
+      a .reply .bytes
+      ∙ ap (λ (m : ℕ). writtenAt (textOf m (due text .value)) space) (refused-due f g)
+      ∙ ap (λ (l : List ℕ). writtenAt l space) (text-told number (due text .value) f)
 
   -- it stands at the start
   pub refused-line : (number ≡ 0 → ⊥) → (number ≡ 10 → ⊥) → 7 ≤ length space → take 7 after ≡ lineText (number ∷ [])
@@ -153,30 +112,26 @@ module _ {text space after : List ℕ} {number size : ℕ} (a : Answered text sp
   pub bytes-left : BytesLeft text space after number size
   bytes-left =
       record {
-        as-long = rw (a .leaves .bytes) (as-long (textOf (due text .number) (a .written)) space);
-        zero-left = λ z. record { lines = a .written; may-write = a .allowed; at-start = answered z; is-length = is-long z };
+        as-long = rw (a .reply .bytes) (as-long (textOf (due text .number) (due text .value)) space);
+        zero-left = λ z. record { at-start = answered z; is-length = accepted-due z .2 };
         line-left = λ f g h. told f g ∙ stands (lineText (number ∷ [])) space 7 (length-line (number ∷ [])) h;
         few-left = few;
         ten-left = ten;
       }
     where
-      is-long : number ≡ 0 → size ≡ length (answerText (a .written))
-      is-long z = accepted-due z .2 ∙ rearranged-length (may-rearranged (a .allowed))
-
-      answered : number ≡ 0 → after ≡ answerText (a .written) ++ drop size space
+      answered : number ≡ 0 → after ≡ answerText (due text .value) ++ drop size space
       answered z =
           let (e, fits, s) = accepted-due z in
-          a .leaves .bytes
-          ∙ ap (λ (m : ℕ). writtenAt (textOf m (a .written)) space) e
-          ∙ stands (answerText (a .written)) space size (sym (is-long z)) (omega arith)
+          a .reply .bytes
+          ∙ ap (λ (m : ℕ). writtenAt (textOf m (due text .value)) space) e
+          ∙ stands (answerText (due text .value)) space size (sym s) (omega arith)
 
       ten : number ≡ 10 → after ≡ space
       ten z =
-          let (e, f) = returned-ten (due text .number) (leb long (length space)) (due-most text) (sym (a .leaves .number-is) ∙ z) in
-          let lines = rearranged-length (may-rearranged (a .allowed)) in
-          a .leaves .bytes
-          ∙ ap (λ (m : ℕ). writtenAt (textOf m (a .written)) space) e
-          ∙ kept (answerText (a .written)) space (omega (arith, leb-false long (length space) f))
+          let (e, f) = returned-ten (due text .number) (leb long (length space)) (due-most text) (sym (a .reply .number-is) ∙ z) in
+          a .reply .bytes
+          ∙ ap (λ (m : ℕ). writtenAt (textOf m (due text .value)) space) e
+          ∙ kept (answerText (due text .value)) space (omega (arith, leb-false long (length space) f))
 
       few : (number ≡ 0 → ⊥) → length space < 7 → after ≡ space
       few f h = elim (ℕ-discrete number 10) [
@@ -188,35 +143,24 @@ module _ {text space after : List ℕ} {number size : ℕ} (a : Answered text sp
 
 module _ {text space space′ after after′ : List ℕ} {number number′ size size′ : ℕ}
     (a : Answered text space after number size) (b : Answered text space′ after′ number′ size′) where
-  pub same-lines : MayWrite (kindOf text) (a .written) (b .written)
-  same-lines = may-both (a .allowed) (b .allowed)
-
   -- with the same number, the same length
   sizes : number ≡ number′ → size ≡ size′
-  sizes e = a .leaves .size-is ∙ ap (λ (n : ℕ). lengthReturned n (length (answerText (due text .value)))) e ∙ sym (b .leaves .size-is)
+  sizes e = a .reply .size-is ∙ ap (λ (n : ℕ). lengthReturned n (length (answerText (due text .value)))) e ∙ sym (b .reply .size-is)
 
   -- the other space decides between 0 and 10 where the one call is accepted
   number-other : number ≡ 0 → (fits : Bool) → leb size (length space′) ≡ fits → number′ ≡ cond fits 0 10
   number-other z fits e =
       let (none, _, is-long) = accepted-due a z in
-      b .leaves .number-is ∙ rw (none, ← is-long, e) refl
+      b .reply .number-is ∙ rw (none, ← is-long, e) refl
 
-  pub any-space : AnySpace text space space′ after after′ number number′ size size′
+  pub any-space : AnySpace space space′ after after′ number number′ size size′
   any-space =
       record {
         refused-alike = alike;
         accepted-alike = λ z h. number-other z true (le-leb size (length space′) h);
         ten-if-shorter = λ z h. number-other z false (lt-leb size (length space′) h);
         same-length = sizes;
-        same-text = λ z z′ h. accepted-text a z ∙ ap answerText (sym (may-same same-lines h)) ∙ sym (accepted-text b z′);
-        same-survey = λ z z′.
-            record {
-              lines = a .written;
-              lines′ = b .written;
-              is-text = accepted-text a z;
-              is-text′ = accepted-text b z′;
-              may-write = same-lines;
-            };
+        same-text = λ z z′. accepted-text a z ∙ sym (accepted-text b z′);
         same-line = λ f g h h′.
             let e = alike f g in
             refused-line a f g h ∙ ap (λ (n : ℕ). lineText (n ∷ [])) (sym e) ∙ sym (refused-line b (λ z. f (sym e ∙ z)) (λ z. g (sym e ∙ z)) h′);
@@ -225,21 +169,14 @@ module _ {text space space′ after after′ : List ℕ} {number number′ size 
       alike : (number ≡ 0 → ⊥) → (number ≡ 10 → ⊥) → number′ ≡ number
       alike f g =
           let e = refused-due a f g in
-          b .leaves .number-is ∙ returned-told (due text .number) _ (λ z. f (sym e ∙ z)) ∙ e
+          b .reply .number-is ∙ returned-told (due text .number) _ (λ z. f (sym e ∙ z)) ∙ e
 
 -- with the same space, the same number and every byte
 pub one-answer : {text space after after′ : List ℕ} {number number′ size size′ : ℕ}
-    → Answered text space after number size → Answered text space after′ number′ size′ → OneAnswer text after after′ number number′ size size′
-one-answer {text} {space} a b =
-    let numbers = a .leaves .number-is ∙ sym (b .leaves .number-is) in
-    record {
-      one-number = numbers;
-      one-size = sizes a b numbers;
-      one-space = λ h.
-          a .leaves .bytes
-          ∙ ap (λ (w : List (List ℕ)). writtenAt (textOf (due text .number) w) space) (sym (may-same (same-lines a b) h))
-          ∙ sym (b .leaves .bytes);
-    }
+    → Answered text space after number size → Answered text space after′ number′ size′ → OneAnswer after after′ number number′ size size′
+one-answer a b =
+    let numbers = a .reply .number-is ∙ sym (b .reply .number-is) in
+    record { one-number = numbers; one-size = sizes a b numbers; one-space = a .reply .bytes ∙ sym (b .reply .bytes) }
 
 -- ---- the first fault
 
@@ -250,7 +187,7 @@ pub data FirstFault (text space : List ℕ) (number : ℕ) : Type 0 where
   without-room : ((k : ℕ) → Applies (faultsOf text) k → ⊥) → length space < length (answerText (due text .value)) → number ≡ 10 → FirstFault text space number
 
 pub first-fault : {text space after : List ℕ} {number size : ℕ} → Answered text space after number size → FirstFault text space number
-first-fault {text} {space} {number = number} a = go (due text .number) (sym (due-number text)) (a .leaves .number-is)
+first-fault {text} {space} {number = number} a = go (due text .number) (sym (due-number text)) (a .reply .number-is)
   where
     size : ℕ
     size = length (answerText (due text .value))
@@ -268,7 +205,7 @@ first-fault {text} {space} {number = number} a = go (due text .number) (sym (due
 -- ---- the length
 
 pub refusal-length : {text space after : List ℕ} {number size : ℕ} → Answered text space after number size → (number ≡ 0 → ⊥) → size ≡ 0
-refusal-length {text} {number = number} {size = size} a h = go number h (a .leaves .size-is)
+refusal-length {text} {number = number} {size = size} a h = go number h (a .reply .size-is)
   where
     go : (n : ℕ) → (n ≡ 0 → ⊥) → size ≡ lengthReturned n (length (answerText (due text .value))) → size ≡ 0
     go zero f e = absurd (f refl)

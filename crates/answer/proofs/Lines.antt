@@ -36,8 +36,8 @@ use Rattle.text.proofs.Lengths.{length-request}
 use Rattle.text.proofs.Form.{six-none, six-more}
 use Rattle.text.proofs.Requests.{ReadAs, written-read}
 use Rattle.answer.specs.Due.{request, rowLines, bestLines, search, checkFaults, entriesOf, checkLines, check, surveyFaults, surveyLine, surveyLines, survey, gateLines, gates, kinds, kindAmong, dueTo, kindIn, requestIn, faultsOf, due}
-use Rattle.answer.specs.Answered.{Rearranged, same, more, swapped, further, MayWrite, due-lines, survey-lines, textOf}
-use Rattle.answer.specs.Reference.{ReferenceLine, texts, power, IsDue, ReferenceSays, AllReferenceSay, all-none, _and_, elementLines, searches, checks, gateLists, gateTexts, refusals, from-one, limits, bytesOf, example, referenceLines}
+use Rattle.answer.specs.Answered.{textOf}
+use Rattle.answer.specs.Reference.{ReferenceLine, texts, power, ReferenceSays, AllReferenceSay, all-none, _and_, elementLines, searches, checks, surveys, surveyTexts, gateLists, gateTexts, refusals, from-one, limits, bytesOf, example, referenceLines}
 
 -- ---- from the numbers of a request to its text
 
@@ -72,44 +72,6 @@ due-request k p o vs e =
     let (form, r) = read-request k p o vs e in
     rw (form, r .kind-is, r .polynomial-is, r .order-is, r .values-are) (sym (after-left [] _ 1 false _ refl))
 
--- ---- the lines that may be written
-
--- no others than those due may be written
-abbrev Fixed : ℕ → List (List ℕ) → Type 0
-Fixed kind l = (written : List (List ℕ)) → MayWrite kind l written → written ≡ l
-
--- a search's and a check's lines are fixed
-fixed : (kind : ℕ) (l : List (List ℕ)) → (kind ≡ 3 → ⊥) → Fixed kind l
-fixed kind l h written due-lines = refl
-fixed kind l h written (survey-lines r) = absurd (h refl)
-
--- no line, or a line alone, has no other order
-none-rearranged : {l r : List (List ℕ)} → Rearranged l r → l ≡ [] → r ≡ []
-none-rearranged same e = e
-none-rearranged (more h) e = cc
-none-rearranged swapped e = cc
-none-rearranged (further h k) e = none-rearranged k (none-rearranged h e)
-
-one-rearranged : (x : List ℕ) {l r : List (List ℕ)} → Rearranged l r → l ≡ x ∷ [] → r ≡ x ∷ []
-one-rearranged x same e = e
-one-rearranged x (more {l = l} h) e = let rest : l ≡ [] = cc in cc (none-rearranged h rest)
-one-rearranged x swapped e = cc
-one-rearranged x (further h k) e = one-rearranged x k (one-rearranged x h e)
-
--- so the lines of a survey with one polynomial are fixed
-fixed-survey : (x y : List ℕ) → Fixed 3 (x ∷ y ∷ [])
-fixed-survey x y written due-lines = refl
-fixed-survey x y written (survey-lines r) = ap (λ l. x ∷ l) (one-rearranged y r refl)
-
--- what is due to the numbers is due to their text
-is-due : (kind polynomial order : ℕ) (values : List ℕ) → fits kind polynomial order values ≡ true → (d : Answer (List (List ℕ)))
-    → Fixed kind (d .value) → dueTo (kindAmong kinds kind) (request polynomial order values) ≡ d → IsDue (requestText kind polynomial order values) d
-is-due kind polynomial order values e d f h =
-    record {
-      is-due = due-request kind polynomial order values e ∙ h;
-      fixed = λ written m. f written (rw (read-request kind polynomial order values e .1 .kind-is) at m);
-    }
-
 -- ---- searches
 
 -- what is due where this row, or none, is the lightest
@@ -126,10 +88,10 @@ all-append all-none k = k
 all-append (h and rest) k = h and all-append rest k
 
 -- whole texts
-and-texts : {question reply : List String} {rest : List ReferenceLine} (d : Answer (List (List ℕ))) → IsDue (bytesOf question) d
+and-texts : {question reply : List String} {rest : List ReferenceLine} (d : Answer (List (List ℕ))) → due (bytesOf question) ≡ d
     → textOf (d .number) (d .value) ≡ bytesOf reply → AllReferenceSay rest → AllReferenceSay (texts question reply ∷ rest)
 unfolding ReferenceSays
-and-texts d h e rest = _and_ {line = texts _ _} (d, h, e) rest
+and-texts d h e rest = _and_ {line = texts _ _} (ap (λ (d : Answer (List (List ℕ))). textOf (d .number) (d .value)) h ∙ e) rest
 
 -- the elements, the searches, the example and the checks, line by line
 elements-hold : AllReferenceSay elementLines
@@ -140,56 +102,62 @@ searches-hold : AllReferenceSay searches
 unfolding ReferenceSays searches fits allSix isOutside isIrreducible someBelow searchFaults polynomialFaults firstNumber isWrongSearchOrder isWrongSearchCount someTooLarge isTooLarge someBad someRepeated member sumOf rowLines rowCount elementCount additionCount total weight tabulate xorCount onesInColumns ones onesIn product rem reduce degree overDigits digitsWithin _⊗_ _⊕_
 searches-hold =
     let (powers, three, few, four, fifteen) = over-nineteen in
-    is-due 1 19 4 _ refl (answer 9 []) (fixed 1 [] (λ h. omega arith)) (search-due 19 4 _ _ powers)
+    (due-request 1 19 4 _ refl ∙ search-due 19 4 _ _ powers)
     and refl
     and refl
     and refl
-    and is-due 1 19 4 _ refl (answer 9 []) (fixed 1 [] (λ h. omega arith)) (search-due 19 4 _ _ three)
-    and is-due 1 19 4 _ refl (answer 9 []) (fixed 1 [] (λ h. omega arith)) (search-due 19 4 _ _ few)
-    and is-due 1 19 4 _ refl _ (fixed 1 _ (λ h. omega arith)) (search-due 19 4 _ _ fifteen)
+    and (due-request 1 19 4 _ refl ∙ search-due 19 4 _ _ three)
+    and (due-request 1 19 4 _ refl ∙ search-due 19 4 _ _ few)
+    and (due-request 1 19 4 _ refl ∙ search-due 19 4 _ _ fifteen)
     and all-none
 
 example-holds : AllReferenceSay example
 unfolding ReferenceSays example fits allSix isOutside isIrreducible someBelow searchFaults polynomialFaults firstNumber isWrongSearchOrder isWrongSearchCount someTooLarge isTooLarge someBad someRepeated member sumOf rowLines rowCount elementCount additionCount total weight tabulate xorCount onesInColumns ones onesIn product rem reduce degree overDigits digitsWithin _⊗_ _⊕_ requestText answerText lineText columns column columnByte valueText lineEnd bytesOf
 example-holds =
-    let worked = is-due 1 19 4 (1 ∷ 4 ∷ 9 ∷ 13 ∷ []) refl _ (fixed 1 _ (λ h. omega arith)) (search-due 19 4 _ _ (over-nineteen .3)) in
-    let seventeen = is-due 1 19 8 (from-one 17) refl (answer 6 []) (fixed 1 [] (λ h. omega arith)) (search-due 19 8 _ _ refl) in
+    let worked = due-request 1 19 4 (1 ∷ 4 ∷ 9 ∷ 13 ∷ []) refl ∙ search-due 19 4 _ _ (over-nineteen .3) in
+    let seventeen = due-request 1 19 8 (from-one 17) refl ∙ search-due 19 8 _ _ refl in
     worked and and-texts _ worked refl (and-texts _ seventeen refl all-none)
 
 checks-hold : AllReferenceSay checks
-unfolding ReferenceSays checks fits allSix dueTo kinds kindAmong search check survey answerAfter firstNumber checkFaults polynomialFaults isWrongOrder checkLines checkOf entriesOf matrixCount rowCount elementCount additionCount total isOutside isIrreducible someBelow someTooLarge isTooLarge branchNumber leastActivity activity weight words before tabulate upTo elements apply sum isMds isInvolution givesBack sameWords surveyFaults surveyLines surveyLine polynomials passing xorCount onesInColumns ones onesIn product rem reduce degree overDigits digitsWithin _⊗_ _⊕_
+unfolding ReferenceSays checks fits allSix dueTo kinds kindAmong search check answerAfter firstNumber checkFaults polynomialFaults isWrongOrder checkLines checkOf entriesOf matrixCount rowCount elementCount additionCount total isOutside isIrreducible someBelow someTooLarge isTooLarge branchNumber leastActivity activity weight words before tabulate upTo elements apply sum isMds isInvolution givesBack sameWords xorCount onesInColumns ones onesIn product rem reduce degree overDigits digitsWithin _⊗_ _⊕_
 checks-hold =
-    is-due 2 7 2 _ refl _ (fixed 2 _ (λ h. omega arith)) refl
-    and is-due 2 7 1 _ refl _ (fixed 2 _ (λ h. omega arith)) refl
-    and is-due 2 7 2 _ refl _ (fixed 2 _ (λ h. omega arith)) refl
-    and is-due 3 2 0 _ refl _ (fixed-survey _ _) refl
-    and due-request 3 3 0 [] refl
+    due-request 2 7 2 _ refl
+    and due-request 2 7 1 _ refl
+    and due-request 2 7 2 _ refl
     and all-none
+
+surveys-hold : AllReferenceSay surveys
+unfolding ReferenceSays surveys fits allSix dueTo kinds kindAmong search check survey answerAfter firstNumber surveyFaults surveyLines surveyLine polynomials passing isIrreducible someBelow total xorCount onesInColumns ones onesIn product rem reduce degree overDigits digitsWithin _⊗_ _⊕_
+surveys-hold = due-request 3 2 0 [] refl and due-request 3 3 0 [] refl and due-request 3 4 0 [] refl and all-none
+
+survey-texts-hold : AllReferenceSay surveyTexts
+unfolding ReferenceSays surveyTexts fits allSix dueTo kinds kindAmong search check survey answerAfter firstNumber surveyFaults surveyLines surveyLine polynomials passing tabulate isIrreducible someBelow total xorCount onesInColumns ones onesIn product rem reduce degree overDigits digitsWithin _⊗_ _⊕_ requestText answerText lineText columns column columnByte valueText lineEnd bytesOf
+survey-texts-hold = and-texts _ (due-request 3 3 0 [] refl) refl all-none
 
 gate-lists-hold : AllReferenceSay gateLists
 unfolding ReferenceSays gateLists fits allSix dueTo kinds kindAmong search check survey gates answerAfter firstNumber checkFaults polynomialFaults isWrongOrder isOutside isIrreducible someBelow someTooLarge isTooLarge gateLines entriesOf gatesOfMatrix carriersOfMatrix outputs inputsOf isInput bit gatesFrom carriersFrom gatesOf carrierOf joining passing tabulate evaluate carriedBit wires product rem reduce degree overDigits digitsWithin _⊗_ _⊕_
 gate-lists-hold =
-    is-due 4 7 2 _ refl _ (fixed 4 _ (λ h. omega arith)) refl
-    and is-due 4 7 1 _ refl _ (fixed 4 _ (λ h. omega arith)) refl
-    and is-due 4 7 1 _ refl _ (fixed 4 _ (λ h. omega arith)) refl
-    and is-due 4 11 2 _ refl _ (fixed 4 _ (λ h. omega arith)) refl
+    due-request 4 7 2 _ refl
+    and due-request 4 7 1 _ refl
+    and due-request 4 7 1 _ refl
+    and due-request 4 11 2 _ refl
     and refl
     and refl
     and refl
-    and is-due 4 3 1 _ refl _ (fixed 4 _ (λ h. omega arith)) refl
-    and is-due 4 5 1 _ refl _ (fixed 4 _ (λ h. omega arith)) refl
-    and is-due 4 7 0 _ refl _ (fixed 4 _ (λ h. omega arith)) refl
-    and is-due 4 7 9 _ refl _ (fixed 4 _ (λ h. omega arith)) refl
-    and is-due 4 7 2 _ refl _ (fixed 4 _ (λ h. omega arith)) refl
-    and is-due 4 7 1 _ refl _ (fixed 4 _ (λ h. omega arith)) refl
-    and is-due 5 7 1 _ refl _ (fixed 5 _ (λ h. omega arith)) refl
+    and due-request 4 3 1 _ refl
+    and due-request 4 5 1 _ refl
+    and due-request 4 7 0 _ refl
+    and due-request 4 7 9 _ refl
+    and due-request 4 7 2 _ refl
+    and due-request 4 7 1 _ refl
+    and due-request 5 7 1 _ refl
     and all-none
 
 gate-texts-hold : AllReferenceSay gateTexts
 unfolding ReferenceSays gateTexts fits allSix dueTo kinds kindAmong search check survey gates answerAfter firstNumber checkFaults polynomialFaults isWrongOrder isOutside isIrreducible someBelow someTooLarge isTooLarge gateLines entriesOf gatesOfMatrix carriersOfMatrix outputs inputsOf isInput bit gatesFrom carriersFrom gatesOf carrierOf joining passing tabulate product rem reduce degree overDigits digitsWithin _⊗_ _⊕_ requestText answerText lineText columns column columnByte valueText lineEnd bytesOf
 gate-texts-hold =
     let d : Answer (List (List ℕ)) = answer 0 ((0 ∷ 1 ∷ []) ∷ (0 ∷ 1 ∷ []) ∷ (2 ∷ []) ∷ (0 ∷ []) ∷ []) in
-    and-texts d (is-due 4 7 1 (3 ∷ []) refl d (fixed 4 (d .value) (λ h. omega arith)) refl) refl all-none
+    and-texts d (due-request 4 7 1 (3 ∷ []) refl) refl all-none
 
 refusals-hold : AllReferenceSay refusals
 unfolding ReferenceSays refusals firstNumber inverseFaults determinantFaults matrixFaults halvedFaults polynomialFaults isOutside isIrreducible isTooLarge isWrongOrder isWrongHalvedOrder someEntryTooLarge someWordTooLarge someBelow degree overDigits digitsWithin _⊗_ _⊕_
@@ -219,13 +187,13 @@ not-six e =
 limits-hold : AllReferenceSay limits
 unfolding ReferenceSays limits fits allSix dueTo kinds kindAmong search check answerAfter firstNumber checkFaults searchFaults polynomialFaults isOutside isIrreducible someBelow isWrongSearchOrder isWrongSearchCount someTooLarge isTooLarge someBad someRepeated member degree overDigits digitsWithin _⊗_ _⊕_ tabulate
 limits-hold =
-    is-due 2 3 1 _ refl _ (fixed 2 _ (λ h. omega arith)) refl
-    and is-due 2 21 1 (0 ∷ []) refl (answer 4 []) (fixed 2 [] (λ h. omega arith)) (with-factors 21 1 (0 ∷ []) refl 7 7 (lit≤ tt) (lit≤ tt) refl)
-    and is-due 2 511 1 (0 ∷ []) refl (answer 4 []) (fixed 2 [] (λ h. omega arith)) (with-factors 511 1 (0 ∷ []) refl 7 73 (lit≤ tt) (lit≤ tt) refl)
-    and is-due 2 512 1 _ refl _ (fixed 2 _ (λ h. omega arith)) refl
+    due-request 2 3 1 _ refl
+    and (due-request 2 21 1 (0 ∷ []) refl ∙ with-factors 21 1 (0 ∷ []) refl 7 7 (lit≤ tt) (lit≤ tt) refl)
+    and (due-request 2 511 1 (0 ∷ []) refl ∙ with-factors 511 1 (0 ∷ []) refl 7 73 (lit≤ tt) (lit≤ tt) refl)
+    and due-request 2 512 1 _ refl
     and not-six
-    and is-due 1 37 8 _ refl _ (fixed 1 _ (λ h. omega arith)) refl
-    and is-due 1 37 4 _ refl _ (fixed 1 _ (λ h. omega arith)) refl
+    and due-request 1 37 8 _ refl
+    and due-request 1 37 4 _ refl
     and all-none
 
 -- every line of the table
@@ -234,6 +202,8 @@ unfolding referenceLines
 lines-hold =
     all-append
     (all-append
-    (all-append (all-append (all-append (all-append (all-append elements-hold searches-hold) checks-hold) gate-lists-hold) gate-texts-hold) refusals-hold)
+    (all-append
+    (all-append (all-append (all-append (all-append (all-append (all-append elements-hold searches-hold) checks-hold) surveys-hold) survey-texts-hold) gate-lists-hold) gate-texts-hold)
+    refusals-hold)
     limits-hold)
     example-holds

@@ -1,5 +1,4 @@
--- What is left in the lent space: where a text is written, where it does not fit, and that a part's reply is the contract of `answer`.
--- Assumes nothing.
+-- What is left in the lent space: where a text is written, and where it does not fit. Assumes nothing.
 use mathlib.Core.Path.{_≡_, refl, sym, ap, _∙_}
 use mathlib.Core.List.{List, [], _∷_, _++_, append-nil}
 use Prim.Native.Nat.{ℕ, zero, suc, _+_, _*_, _≤_, _<_}
@@ -16,9 +15,7 @@ use Rattle.text.proofs.Places.{put-front}
 use Rattle.text.proofs.Lengths.{length-line}
 use Rattle.text.proofs.Answers.{answer-one}
 use Rattle.answer.specs.declared.Reply.{Reply}
-use Rattle.answer.specs.Due.{due}
-use Rattle.answer.specs.Answered.{due-lines, Answered, writtenAt}
-use Rattle.answer.specs.Steps.Replied.{Replied}
+use Rattle.answer.specs.Answered.{writtenAt, Replied}
 
 -- the reply to what is due is a reply to the same by another name
 pub replied-as : {d e : Answer (List (List ℕ))} {space after : List ℕ} {number size : ℕ} → d ≡ e → Replied d space after number size → Replied e space after number size
@@ -77,7 +74,3 @@ two-text a b = ap (λ (l : List ℕ). lineText a ++ l) (append-nil (lineText b))
 
 pub two-length : (a b : List ℕ) → length (answerText (a ∷ b ∷ [])) ≡ 6 * length a + 6 * length b + 2
 two-length a b = rw (two-text a b) (omega (arith, length-append (lineText a) (lineText b), length-line a, length-line b))
-
--- the lines that are due may be written
-pub answered : (text : List ℕ) {space after : List ℕ} {number size : ℕ} → Replied (due text) space after number size → Answered text space after number size
-answered text r = record { written = due text .value; allowed = due-lines; leaves = r }

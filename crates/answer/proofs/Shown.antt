@@ -11,7 +11,6 @@ use Rattle.text.proofs.Lengths.{length-line}
 use Rattle.answer.specs.Due.{due}
 use Rattle.answer.specs.Answered.{textOf, lengthReturned, writtenAt, Answered, Shown}
 use Rattle.answer.proofs.Acceptance.{answer-short}
-use Rattle.answer.proofs.Demands.{may-rearranged, rearranged-length}
 
 -- a text that fits stands at the start
 fits-front : (text space : List ℕ) → length text ≤ length space → writtenAt text space ≡ text ++ drop (length text) space
@@ -28,30 +27,27 @@ length-accepted zero size long z s = s
 length-accepted (suc n) size long z s = let y : ⊥ = omega arith in absurd y
 
 shown-length : {text space after : List ℕ} {number size : ℕ} (a : Answered text space after number size) → 52877 ≤ length space → (m : ℕ) → due text .number ≡ m
-    → ShownBytes text (textOf m (a .written)) number size
+    → ShownBytes text (textOf m (due text .value)) number size
 shown-length {text} {space} {number = number} {size = size} a h zero e =
     let short = answer-short text e in
-    let long = rearranged-length (may-rearranged (a .allowed)) in
-    let number-is : number ≡ 0 = a .leaves .number-is ∙ rw (e, le-leb (length (answerText (due text .value))) (length space) (omega arith)) in
+    let number-is : number ≡ 0 = a .reply .number-is ∙ rw (e, le-leb (length (answerText (due text .value))) (length space) (omega arith)) in
     record {
       few = omega arith;
-      of-answer = λ z. length-accepted number size _ z (a .leaves .size-is) ∙ long;
+      of-answer = λ z. length-accepted number size _ z (a .reply .size-is);
       of-refusal = λ z. absurd (z number-is);
     }
 shown-length {text} {space} {number = number} a h (suc m) e =
     let line = length-line (suc m ∷ []) in
-    let number-is : number ≡ suc m = a .leaves .number-is ∙ rw e in
+    let number-is : number ≡ suc m = a .reply .number-is ∙ rw e in
     record { few = omega arith; of-answer = λ z. let y : ⊥ = omega arith in absurd y; of-refusal = λ z. sym line }
 
 module _ {text space after : List ℕ} {number size : ℕ} (a : Answered text space after number size) (h : 52877 ≤ length space) where
-  shown-at : (count : ℕ) → count ≡ length (textOf (due text .number) (a .written)) → Shown text space after count
+  shown-at : (count : ℕ) → count ≡ length (textOf (due text .number) (due text .value)) → Shown text space after count
   shown-at count e =
       let fits = shown-length a h (due text .number) refl .few in
       record {
-        written = a .written;
-        allowed = a .allowed;
         count-is = e;
-        bytes = a .leaves .bytes ∙ fits-front (textOf (due text .number) (a .written)) space (omega arith) ∙ rw e;
+        bytes = a .reply .bytes ∙ fits-front (textOf (due text .number) (due text .value)) space (omega arith) ∙ rw e;
       }
 
   pub shown-answer : number ≡ 0 → Shown text space after size
@@ -63,4 +59,4 @@ module _ {text space after : List ℕ} {number size : ℕ} (a : Answered text sp
 -- no more is shown than there is
 pub shown-most : {text space after : List ℕ} {count : ℕ} → Shown text space after count → count ≤ length after
 shown-most {text} {space = space} {count = count} s =
-    omega (arith, s .count-is, ap length (s .bytes), length-append (textOf (due text .number) (s .written)) (drop count space))
+    omega (arith, s .count-is, ap length (s .bytes), length-append (textOf (due text .number) (due text .value)) (drop count space))

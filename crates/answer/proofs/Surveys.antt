@@ -24,7 +24,7 @@ use Rattle.text.specs.Text.{lineText, answerText, SixDigits}
 use Rattle.text.proofs.Form.{six-none, six-more}
 use Rattle.text.proofs.Lengths.{length-line}
 use Rattle.answer.specs.Due.{surveyLine, surveyLines}
-use Rattle.answer.specs.Steps.Replied.{tableFrom, linesFrom}
+use Rattle.answer.specs.Steps.TableLines.{tableFrom, linesFrom}
 
 -- a field has 4 to 256 elements
 pub size-low : (p : ℕ) → Modulus p → 1 ≤ 2 ^ degree p

@@ -7,11 +7,11 @@ use mathlib.Core.List.{List, []}
 use Prim.Native.Nat.{ℕ, zero, suc, _+_, _*_, _/_, _≤_, _<_, zero-le}
 use native.Mathlib.Omega.{arith}
 use lib.ListN.{length, take, replicate, length-replicate}
-use lib.Seq.{take-all, length-take-le, getD-take}
+use lib.Seq.{take-all, length-take-le}
 use Rattle.refusal.specs.Refusals.{answer}
 use Rattle.algebra.proofs.Sums.{le-or-lt}
 use Rattle.text.specs.Text.{requestText, SixDigits}
-use Rattle.text.specs.Reading.{numberAt, kindOf, inForm}
+use Rattle.text.specs.Reading.{numberAt, inForm}
 use Rattle.text.proofs.Compare.{is-false}
 use Rattle.text.proofs.Form.{form-length, length-rewritten, six-none, six-more}
 use Rattle.text.proofs.Requests.{longest-text, written-read}
@@ -59,27 +59,9 @@ module _ (n : ℕ) (h : 4093 < n) (input : List ℕ) where
       long : n < length input → due (take n input) ≡ due input
       long l = long-refused (take n input) (rw (length-take-le n input (omega arith)) h) ∙ sym (long-refused input (omega arith))
 
-  pub first-kind : kindOf (take n input) ≡ kindOf input
-  unfolding kindOf numberAt
-  first-kind =
-      rw (
-        getD-take n input 0 0 (omega arith),
-        getD-take n input 1 0 (omega arith),
-        getD-take n input 2 0 (omega arith),
-        getD-take n input 3 0 (omega arith),
-        getD-take n input 4 0 (omega arith),
-        getD-take n input 5 0 (omega arith),
-      )
-
   -- what is shown to them is what is to be shown to all of it
   pub first-bytes : {space after : List ℕ} {count : ℕ} → Shown (take n input) space after count → Shown input space after count
-  first-bytes s =
-      record {
-        written = s .written;
-        allowed = rw (first-kind, first-due) at (s .allowed);
-        count-is = rw first-due at (s .count-is);
-        bytes = rw first-due at (s .bytes);
-      }
+  first-bytes s = record { count-is = rw first-due at (s .count-is); bytes = rw first-due at (s .bytes) }
 
 -- some input has these first bytes, so no more is shown than there is
 pub whole-most : {first space after : List ℕ} {count : ℕ} (n : ℕ) → length first ≤ n

@@ -1,34 +1,32 @@
--- Demands 1 and 3 of request texts, and what request Two promises of them, in the customer's words. Assumes nothing.
+-- Demands 1 and 3 of request texts, and what requests Two and Three promise of them, in the customer's words. Assumes nothing.
 use mathlib.Core.Path.{_≡_}
 use mathlib.Core.Logic.{_↔_, _⊎_}
-use mathlib.Core.List.{List, [], _∷_, _++_}
+use mathlib.Core.List.{List, [], _∷_, _++_, map, List·Memᴰ}
 use Prim.Native.Nat.{ℕ, _+_, _*_, _≤_, _<_}
-use lib.ListN.{length, take, drop}
+use lib.ListN.{length, getD, take, drop}
 use Rattle.refusal.specs.Refusals.{Answer, answer}
-use Rattle.field.specs.Polynomial.{degree}
+use Rattle.field.specs.Polynomial.{Irreducible, degree}
 use Rattle.matrix.specs.Counts.{matrixCount}
 use Rattle.gates.specs.Netlist.{Netlist}
 use Rattle.search.specs.Demands.{Both, Demanded}
 use Rattle.text.specs.Text.{lineText, answerText}
 use Rattle.text.specs.Reading.{kindOf, polynomialOf, orderOf, valuesOf}
-use Rattle.answer.specs.Due.{rowLines, entriesOf, gateLines, due}
+use Rattle.answer.specs.Due.{rowLines, entriesOf, surveyLine, gateLines, due}
 use Rattle.answer.specs.Limits.{StatedOf}
-use Rattle.answer.specs.Answered.{MayWrite, writtenAt}
+use Rattle.answer.specs.Answered.{writtenAt}
 
 -- ---- demand 1
 
--- two calls of the same request with the same lent space: number, length and, but for a survey, every byte are the same
-pub record OneAnswer (text after after′ : List ℕ) (number number′ size size′ : ℕ) : Type 0 where
+-- two calls of the same request with the same lent space: number, length and every byte are the same
+pub record OneAnswer (after after′ : List ℕ) (number number′ size size′ : ℕ) : Type 0 where
   pub one-number : number ≡ number′
   pub one-size : size ≡ size′
-  pub one-space : (kindOf text ≡ 3 → ⊥) → after ≡ after′
+  pub one-space : after ≡ after′
 
 -- the answer text stands at the start of the lent space, its length is returned, and the bytes behind it keep their contents
 pub record AnswerStands (text space after : List ℕ) (size : ℕ) : Type 0 where
-  pub lines : List (List ℕ)
-  pub may-write : MayWrite (kindOf text) (due text .value) lines
-  pub at-start : after ≡ answerText lines ++ drop size space
-  pub is-length : size ≡ length (answerText lines)
+  pub at-start : after ≡ answerText (due text .value) ++ drop size space
+  pub is-length : size ≡ length (answerText (due text .value))
 
 -- what a call leaves in the lent space, by the number that it returns
 pub record BytesLeft (text space after : List ℕ) (number size : ℕ) : Type 0 where
@@ -41,16 +39,8 @@ pub record BytesLeft (text space after : List ℕ) (number size : ℕ) : Type 0 
   pub few-left : (number ≡ 0 → ⊥) → length space < 7 → after ≡ space
   pub ten-left : number ≡ 10 → after ≡ space
 
--- two answer texts to a request of a kind: the same lines, but for the order that is open
-pub record SameLines (kind : ℕ) (reply reply′ : List ℕ) : Type 0 where
-  pub lines : List (List ℕ)
-  pub lines′ : List (List ℕ)
-  pub is-text : reply ≡ answerText lines
-  pub is-text′ : reply′ ≡ answerText lines′
-  pub may-write : MayWrite kind lines lines′
-
 -- two calls of the same request with any two lent spaces, in either order: what the one returns tells what the other returns
-pub record AnySpace (text space space′ after after′ : List ℕ) (number number′ size size′ : ℕ) : Type 0 where
+pub record AnySpace (space space′ after after′ : List ℕ) (number number′ size size′ : ℕ) : Type 0 where
   -- refused with 1 to 9: refused with the same number, whatever space is lent
   pub refused-alike : (number ≡ 0 → ⊥) → (number ≡ 10 → ⊥) → number′ ≡ number
   -- accepted: accepted in every space that is as long as the answer, and 10 in every shorter one
@@ -58,9 +48,8 @@ pub record AnySpace (text space space′ after after′ : List ℕ) (number numb
   pub ten-if-shorter : number ≡ 0 → length space′ < size → number′ ≡ 10
   -- the same number: the same length
   pub same-length : number ≡ number′ → size ≡ size′
-  -- both accepted: the same answer text; a survey's, up to the order of its lines after the first
-  pub same-text : number ≡ 0 → number′ ≡ 0 → (kindOf text ≡ 3 → ⊥) → take size after ≡ take size′ after′
-  pub same-survey : number ≡ 0 → number′ ≡ 0 → SameLines (kindOf text) (take size after) (take size′ after′)
+  -- both accepted: the same answer text, whatever the kind
+  pub same-text : number ≡ 0 → number′ ≡ 0 → take size after ≡ take size′ after′
   -- refused with 1 to 9: the same line, where seven bytes are lent to both
   pub same-line : (number ≡ 0 → ⊥) → (number ≡ 10 → ⊥) → 7 ≤ length space → 7 ≤ length space′ → take 7 after ≡ take 7 after′
 
@@ -149,3 +138,14 @@ pub record GatesAnswered (text : List ℕ) : Type 0 where
   pub promised : Netlist (polynomialOf text) (orderOf text) (matrixIn text)
   pub length-is : length (answerText (due text .value)) ≡ 13 + 13 * matrixCount (polynomialOf text) (orderOf text) (matrixIn text) + 7 * (orderOf text * degree (polynomialOf text))
   pub within : length (answerText (due text .value)) ≤ 65536
+
+-- ---- request Three
+
+-- the text of a survey of degree m: line one with the number of the polynomials, and a line for each of them; they ascend strictly, and are the
+-- irreducible ones of the degree, all of them and no other
+pub record SurveyText (m : ℕ) (reply : List ℕ) : Type 0 where
+  -- the polynomials, in the order of their lines
+  pub listed : List ℕ
+  pub is-text : reply ≡ answerText ((0 ∷ length listed ∷ []) ∷ map surveyLine listed)
+  pub ascend : (i j : ℕ) → i < j → j < length listed → getD listed i 0 < getD listed j 0
+  pub complete : (p : ℕ) → (Irreducible p × (degree p ≡ m)) ↔ List·Memᴰ p listed

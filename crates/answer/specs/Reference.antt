@@ -1,5 +1,5 @@
 -- The reference lines of document 01 that are marked P, as one table, with the limits of its last point, its example of a search,
--- whole, the gate lists of request Two, and lines that tell apart what the others cannot. Assumes nothing.
+-- whole, the gate lists of request Two, surveys in the order of request Three, and lines that tell apart what the others cannot. Assumes nothing.
 use mathlib.Core.Path.{_≡_}
 use mathlib.Core.Logic.{_≢_}
 use mathlib.Core.List.{List, [], _∷_, _++_, map, foldl}
@@ -17,9 +17,8 @@ use Rattle.gates.specs.Gates.{gatesOfMatrix, carriersOfMatrix}
 use Rattle.gates.specs.Wires.{evaluate}
 use Rattle.refusal.specs.Refusals.{Fault, firstNumber, Answer, answer}
 use Rattle.text.specs.Text.{requestText}
-use Rattle.text.specs.Reading.{kindOf}
 use Rattle.answer.specs.Due.{entriesOf, due}
-use Rattle.answer.specs.Answered.{MayWrite, textOf}
+use Rattle.answer.specs.Answered.{textOf}
 
 -- a line of the table
 pub data ReferenceLine : Type 0 where
@@ -42,9 +41,7 @@ pub data ReferenceLine : Type 0 where
   not-given : ℕ → ℕ → ℕ → List ℕ → ℕ → ReferenceLine
   -- a library call that has these faults is refused with this number; 0: it is accepted
   calls : List Fault → ℕ → ReferenceLine
-  -- to a survey of this degree these lines are due, those after the first in any order
-  surveys : ℕ → List (List ℕ) → ReferenceLine
-  -- to the request text of these lines, byte by byte, the text of these lines is written
+  -- to the request text of these lines, byte by byte, the text of these lines is due
   texts : List String → List String → ReferenceLine
 
 unfoldable pub power : ℕ → ℕ → ℕ → ℕ
@@ -56,11 +53,6 @@ unfoldable pub bytesOf : List String → List ℕ
 bytesOf [] = []
 bytesOf (line ∷ rest) = tabulate (len line) (λ i. code (charAt line i)) ++ 10 ∷ bytesOf rest
 
--- this is due to the text, and no other lines may be written
-pub record IsDue (text : List ℕ) (d : Answer (List (List ℕ))) : Type 0 where
-  pub is-due : due text ≡ d
-  pub fixed : (written : List (List ℕ)) → MayWrite (kindOf text) (d .value) written → written ≡ d .value
-
 -- what a line says
 unfoldable pub ReferenceSays : ReferenceLine → Type 0
 ReferenceSays (counts p elements numbers) = map (xorCount p) elements ≡ numbers
@@ -70,11 +62,10 @@ ReferenceSays (sums elements total) = foldl _⊕_ 0 elements ≡ total
 ReferenceSays (determinants p n entries c) = det (numbers p) n (entriesOf n entries) ≡ c
 ReferenceSays (matrix-counts p n entries c) = matrixCount p n (entriesOf n entries) ≡ c
 ReferenceSays (evaluations p n entries bits result) = evaluate (gatesOfMatrix p n (entriesOf n entries)) (carriersOfMatrix p n (entriesOf n entries)) bits ≡ result
-ReferenceSays (requests kind polynomial order values d) = IsDue (requestText kind polynomial order values) d
+ReferenceSays (requests kind polynomial order values d) = due (requestText kind polynomial order values) ≡ d
 ReferenceSays (not-given kind polynomial order values number) = due (requestText kind polynomial order values) .number ≢ number
 ReferenceSays (calls faults number) = firstNumber faults ≡ number
-ReferenceSays (surveys degree lines) = due (requestText 3 degree 0 []) ≡ answer 0 lines
-ReferenceSays (texts request reply) = (d : Answer (List (List ℕ))) × IsDue (bytesOf request) d × (textOf (d .number) (d .value) ≡ bytesOf reply)
+ReferenceSays (texts request reply) = textOf (due (bytesOf request) .number) (due (bytesOf request) .value) ≡ bytesOf reply
 
 infixr 60 _and_
 -- every line of a table holds
@@ -110,14 +101,28 @@ searches =
     requests 1 19 4 (1 ∷ 2 ∷ 3 ∷ 4 ∷ 5 ∷ 6 ∷ 7 ∷ 8 ∷ 9 ∷ 10 ∷ 11 ∷ 12 ∷ 13 ∷ 14 ∷ 15 ∷ []) (answer 0 ((0 ∷ 6 ∷ 18 ∷ 72 ∷ []) ∷ (1 ∷ 4 ∷ 9 ∷ 13 ∷ []) ∷ [])) ∷
     []
 
--- checks over 7: the identity of order 2, order 1 with entry 0, and a matrix that is not its own transpose; the surveys of degrees 2 and 3
+-- checks over 7: the identity of order 2, order 1 with entry 0, and a matrix that is not its own transpose
 unfoldable pub checks : List ReferenceLine
 checks =
     requests 2 7 2 (1 ∷ 0 ∷ 0 ∷ 1 ∷ []) (answer 0 ((0 ∷ 2 ∷ 0 ∷ 1 ∷ 0 ∷ []) ∷ [])) ∷
     requests 2 7 1 (0 ∷ []) (answer 0 ((0 ∷ 1 ∷ 0 ∷ 0 ∷ 0 ∷ []) ∷ [])) ∷
     requests 2 7 2 (1 ∷ 1 ∷ 0 ∷ 0 ∷ []) (answer 0 ((0 ∷ 2 ∷ 0 ∷ 0 ∷ 2 ∷ []) ∷ [])) ∷
+    []
+
+-- the surveys of degrees 2, 3 and 4, their lines by polynomial (document 02, Three)
+unfoldable pub surveys : List ReferenceLine
+surveys =
     requests 3 2 0 [] (answer 0 ((0 ∷ 1 ∷ []) ∷ (7 ∷ 2 ∷ 2 ∷ []) ∷ [])) ∷
-    surveys 3 ((0 ∷ 2 ∷ []) ∷ (11 ∷ 15 ∷ 47 ∷ []) ∷ (13 ∷ 15 ∷ 47 ∷ []) ∷ []) ∷
+    requests 3 3 0 [] (answer 0 ((0 ∷ 2 ∷ []) ∷ (11 ∷ 15 ∷ 47 ∷ []) ∷ (13 ∷ 15 ∷ 47 ∷ []) ∷ [])) ∷
+    requests 3 4 0 [] (answer 0 ((0 ∷ 3 ∷ []) ∷ (19 ∷ 68 ∷ 416 ∷ []) ∷ (25 ∷ 68 ∷ 416 ∷ []) ∷ (31 ∷ 68 ∷ 352 ∷ []) ∷ [])) ∷
+    []
+
+-- a survey, request text and answer text
+unfoldable pub surveyTexts : List ReferenceLine
+surveyTexts =
+    texts
+    ("     3     3     0     0" ∷ [])
+    ("     0     2" ∷ "    11    15    47" ∷ "    13    15    47" ∷ []) ∷
     []
 
 -- gates over 7 (document 02, Two): a matrix that is not its own transpose, whose first output bit joins three inputs; one input alone; a bit that
@@ -194,4 +199,4 @@ example =
 
 -- the table
 unfoldable pub referenceLines : List ReferenceLine
-referenceLines = elementLines ++ searches ++ checks ++ gateLists ++ gateTexts ++ refusals ++ limits ++ example
+referenceLines = elementLines ++ searches ++ checks ++ surveys ++ surveyTexts ++ gateLists ++ gateTexts ++ refusals ++ limits ++ example

@@ -1,4 +1,4 @@
 -- Steps of the code that contracts need. Nobody need believe these: theorems tie them to the definitions.
-pub mod Replied
+pub mod TableLines
 pub mod Asked
 pub mod Outputs

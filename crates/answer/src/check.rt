@@ -9,7 +9,7 @@ ghost use Rattle.matrix.specs.Steps.Blocks.{framed, filled};
 ghost use Rattle.search.specs.Answer.{someTooLarge};
 ghost use Rattle.text.specs.Reading.{valueAt, valuesFrom};
 ghost use Rattle.answer.specs.Due.{request, checkLines, dueTo};
-ghost use Rattle.answer.specs.Steps.Replied.{Replied};
+ghost use Rattle.answer.specs.Answered.{Replied};
 ghost use Rattle.answer.specs.Steps.Asked.{matrixLines, matrixKind};
 use crate::Reply;
 use crate::gate_list::put_gate_list;

@@ -11,7 +11,7 @@ ghost use Rattle.gates.specs.Gates.{outputs};
 ghost use Rattle.text.specs.Writing.{Put};
 ghost use Rattle.text.specs.Reading.{valueAt};
 ghost use Rattle.answer.specs.Due.{gateLines};
-ghost use Rattle.answer.specs.Steps.Replied.{Replied};
+ghost use Rattle.answer.specs.Answered.{Replied};
 ghost use Rattle.answer.specs.Steps.Outputs.{outputText, outputTexts};
 use crate::Reply;
 use crate::check::matrix_of;

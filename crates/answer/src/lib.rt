@@ -2,8 +2,7 @@
 
 ghost use Rattle.text.specs.Reading.{valuesFrom};
 ghost use Rattle.answer.specs.Due.{request, kinds, kindAmong, dueTo};
-ghost use Rattle.answer.specs.Answered.{Answered};
-ghost use Rattle.answer.specs.Steps.Replied.{Replied};
+ghost use Rattle.answer.specs.Answered.{Replied, Answered};
 
 mod check;
 mod gate_list;

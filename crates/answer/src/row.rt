@@ -10,7 +10,7 @@ ghost use Rattle.search.specs.Answer.{sumOf};
 ghost use Rattle.text.specs.Text.{SixDigits};
 ghost use Rattle.text.specs.Reading.{valuesFrom};
 ghost use Rattle.answer.specs.Due.{request, rowLines, search, dueTo};
-ghost use Rattle.answer.specs.Steps.Replied.{Replied};
+ghost use Rattle.answer.specs.Answered.{Replied};
 use crate::Reply;
 use crate::write::put_answers;
 use crate::write::refuse;

@@ -6,7 +6,7 @@ ghost use Prim.Native.Nat.{_≤_};
 ghost use lib.ListN.{length};
 ghost use Rattle.refusal.specs.Refusals.{numberOf, answer};
 ghost use Rattle.text.specs.Text.{SixDigits};
-ghost use Rattle.answer.specs.Steps.Replied.{Replied};
+ghost use Rattle.answer.specs.Answered.{Replied};
 use crate::Reply;
 use refusal::Refusal;
 

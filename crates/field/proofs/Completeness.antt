@@ -1,6 +1,6 @@
--- The table is complete: for 4 ≤ p ≤ 511, p stands in it exactly if it is irreducible; and it holds 1, 2, 3, 6, 9, 18, 30 polynomials by
--- degree. One computed test and one lemma. The polynomials of a degree are listed one time each (`polynomials-different`), and are the
--- irreducible ones of that degree (`polynomials-exactly`). Assumes nothing.
+-- The table is complete: for 4 ≤ p ≤ 511, p stands in it exactly if it is irreducible; it ascends strictly (`table-ascends`), and holds 1, 2, 3,
+-- 6, 9, 18, 30 polynomials by degree. One computed test and one lemma. The polynomials of a degree ascend strictly (`polynomials-ascend`), and are
+-- the irreducible ones of that degree (`polynomials-exactly`). Assumes nothing.
 use mathlib.Core.Path.{_≡_, refl, sym, ap, ap₂, _∙_, subst}
 use mathlib.Core.Bool.{Bool, true, false}
 use mathlib.Core.List.{List, [], _∷_, _++_, map, List·Memᴰ, List·Memᴰ·head, List·Memᴰ·tail, List·Memᴰ·not-nil}
@@ -91,18 +91,49 @@ passing-ascends t (suc n) s = kept (t s) (passing-ascends t n (suc s))
     kept true a = rise (le-refl s) a
     kept false a = lower a
 
--- a list in which no number stands twice
-pub data Different : List ℕ → Type 0 where
-  none : Different []
-  other : {k : ℕ} {l : List ℕ} → (List·Memᴰ k l → ⊥) → Different l → Different (k ∷ l)
-
 pub ascends-above : {low k : ℕ} {l : List ℕ} → Ascends low l → List·Memᴰ k l → low ≤ k
 ascends-above (rise h a) (List·Memᴰ·head e) = omega arith
 ascends-above (rise h a) (List·Memᴰ·tail m) = omega (arith, ascends-above a m)
 
-ascends-different : {low : ℕ} {l : List ℕ} → Ascends low l → Different l
-ascends-different no-more = none
-ascends-different (rise {k = k} {l = l} h a) = other (λ (m : List·Memᴰ k l). omega (arith, ascends-above a m)) (ascends-different a)
+-- the number at a later place is larger
+pub ascends-places : {low : ℕ} {l : List ℕ} → Ascends low l → (i j : ℕ) → i < j → j < length l → getD l i 0 < getD l j 0
+unfolding Stands
+ascends-places no-more i j r s = absurd (not-suc-le-zero s)
+ascends-places (rise h a) i zero r s = absurd (not-suc-le-zero r)
+ascends-places (rise {l = l} h a) zero (suc j) r s = ascends-above a (stands-member (getD l j 0) l (j, le-of-suc-le-suc s, refl))
+ascends-places (rise h a) (suc i) (suc j) r s = ascends-places a i j (le-of-suc-le-suc r) (le-of-suc-le-suc s)
+
+-- and where it is, the list ascends
+pub places-ascend : (low : ℕ) (l : List ℕ) → ((i : ℕ) → i < length l → low ≤ getD l i 0)
+    → ((i j : ℕ) → i < j → j < length l → getD l i 0 < getD l j 0) → Ascends low l
+places-ascend low [] h rises = no-more
+places-ascend low (k ∷ l) h rises =
+    rise (h 0 (zero-lt-suc (length l)))
+    (places-ascend (suc k) l (λ i r. rises 0 (suc i) (zero-lt-suc i) (suc-le-suc r)) (λ i j r s. rises (suc i) (suc j) (suc-le-suc r) (suc-le-suc s)))
+
+-- two that ascend and hold the same numbers are the same list
+pub ascends-same : {low low′ : ℕ} {l r : List ℕ} → Ascends low l → Ascends low′ r → ((k : ℕ) → List·Memᴰ k l ↔ List·Memᴰ k r) → l ≡ r
+ascends-same no-more no-more same = refl
+ascends-same no-more (rise {k = k} h a) same = absurd (List·Memᴰ·not-nil (same k .1 (List·Memᴰ·head refl)))
+ascends-same (rise {k = k} h a) no-more same = absurd (List·Memᴰ·not-nil (same k .0 (List·Memᴰ·head refl)))
+ascends-same (rise {k = k} {l = l} h a) (rise {k = k′} {l = r} h′ a′) same = ap₂ (λ (x : ℕ) (y : List ℕ). x ∷ y) first (ascends-same a a′ rest)
+  where
+    least : {x y : ℕ} {t : List ℕ} → Ascends (suc y) t → List·Memᴰ x (y ∷ t) → y ≤ x
+    least b (List·Memᴰ·head e) = omega arith
+    least b (List·Memᴰ·tail m) = omega (arith, ascends-above b m)
+
+    first : k ≡ k′
+    first = omega (arith, least a′ (same k .0 (List·Memᴰ·head refl)), least a (same k′ .1 (List·Memᴰ·head refl)))
+
+    behind : {x y : ℕ} {t : List ℕ} → y < x → List·Memᴰ x (y ∷ t) → List·Memᴰ x t
+    behind r (List·Memᴰ·head e) = let z : ⊥ = omega arith in absurd z
+    behind r (List·Memᴰ·tail m) = m
+
+    rest : (x : ℕ) → List·Memᴰ x l ↔ List·Memᴰ x r
+    rest x = (
+      λ m. behind (omega (arith, first, ascends-above a m)) (same x .0 (List·Memᴰ·tail m)),
+      λ m. behind (omega (arith, first, ascends-above a′ m)) (same x .1 (List·Memᴰ·tail m)),
+    )
 
 -- a range cut in two
 pub passing-append : (t : ℕ → Bool) (n k s : ℕ) → passing t (n + k) s ≡ passing t n s ++ passing t k (n + s)
@@ -161,13 +192,10 @@ polynomials-part m l u =
     (λ k a b. sym (trial-is k (omega (arith, pow-pos m)) (omega (arith, pow-mono {j = 8} u))))
     ∙ trial-part m l u
 
--- each stands in the list one time
+-- they ascend
 pub polynomials-ascend : (m : ℕ) → Ascends (2 ^ m) (polynomials m)
 unfolding polynomials
 polynomials-ascend m = passing-ascends isIrreducible (2 ^ m) (2 ^ m)
-
-pub polynomials-different : (m : ℕ) → Different (polynomials m)
-polynomials-different m = ascends-different (polynomials-ascend m)
 
 -- the list holds the irreducible polynomials of the degree, and no other number
 pub polynomials-exactly : (m p : ℕ) → 0 < m → List·Memᴰ p (polynomials m) ↔ (Irreducible p × (degree p ≡ m))
@@ -223,6 +251,10 @@ table-is = passing-cong isIrreducible trial 508 4 (λ k a b. sym (trial-is k (om
 pub table-length : length table ≡ 69
 unfolding table
 table-length = refl
+
+-- the table ascends
+pub table-ascends : (i j : ℕ) → i < j → j < length table → getD table i 0 < getD table j 0
+table-ascends = ascends-places (subst (Ascends 4) table-is (passing-ascends isIrreducible 508 4))
 
 -- every entry of the table is irreducible
 pub table-sound : (i : ℕ) → i < 69 → isIrreducible (getD table i 0) ≡ true

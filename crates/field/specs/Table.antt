@@ -18,7 +18,7 @@ passing test (suc n) first = keepIf (test first) first (passing test n (suc firs
 unfoldable pub polynomials : ℕ → List ℕ
 polynomials m = passing isIrreducible (2 ^ m) (2 ^ m)
 
--- the fixed table: the irreducible polynomials of degree 2, then of degree 3, and so on to degree 8
+-- the fixed table: the irreducible polynomials of degree 2, then of degree 3, and so on to degree 8, ascending
 unfoldable pub table : List ℕ
 table =
     7 ∷

@@ -12,7 +12,7 @@ ghost use Rattle.field.specs.Polynomial.{Modulus, degree, isIrreducible,
 use refusal::Outcome;
 use refusal::Refusal;
 
-// The irreducible polynomials, grouped by degree: 1, 2, 3, 6, 9, 18 and 30 of degrees 2 to 8.
+// The irreducible polynomials, ascending: 1, 2, 3, 6, 9, 18 and 30 of degrees 2 to 8.
 pub const TABLE: [u16; 69] = [
     7,
     11,

@@ -9,7 +9,7 @@ use Rattle.text.specs.Reading.{saysHeader, headerAnswer}
 use Rattle.text.proofs.Form.{form-long}
 use Rattle.text.proofs.Requests.{header-read, header-refused}
 use Rattle.answer.proofs.DueFrom.{text-refused, text-numbers}
-use Rattle.answer.proofs.Replies.{replied-as, answered}
+use Rattle.answer.proofs.Replies.{replied-as}
 use borrow.Author.Needs.{needs}
 use Rattle.answer.proofs.answer.Statement.{statement}
 use Rattle.answer.proofs.answer.Tie as tie
@@ -56,9 +56,11 @@ returns : tie.Need-returns
 returns c =
     let told = c .before .before .before .before in
     let s = now (told .before .before .before .before .before .args .request) in
-    answered s
-    (replied-as (text-refused s (header-refused s (ap saysHeader (sym (told .enum-told .given .1)) ∙ told .before .before .read-header .ensures)))
-    (c .before .before .refuse .ensures))
+    record {
+      reply =
+          replied-as (text-refused s (header-refused s (ap saysHeader (sym (told .enum-told .given .1)) ∙ told .before .before .read-header .ensures)))
+          (c .before .before .refuse .ensures);
+    }
 
 same-length-2 : tie.Need-same-length-2
 same-length-2 c = search needs
@@ -68,7 +70,7 @@ returns-2 c =
     let called = c .before .before in
     let known = called .before .before .before in
     let s = now (known .before .before .before .before .before .before .args .request) in
-    answered s (replied-as (text-numbers s _ _ _ _ (header known)) (called .answer-kind .ensures))
+    record { reply = replied-as (text-numbers s _ _ _ _ (header known)) (called .answer-kind .ensures) }
 
 pub answer-spec : {M : Type 1} → statement M
 answer-spec =

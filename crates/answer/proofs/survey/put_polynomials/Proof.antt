@@ -7,7 +7,7 @@ use Rattle.field.specs.Table.{table}
 use Rattle.text.specs.Text.{lineText}
 use Rattle.text.proofs.Places.{Rest, rest-start, rest-step, rest-end}
 use Rattle.answer.specs.Due.{surveyLine}
-use Rattle.answer.specs.Steps.Replied.{linesFrom}
+use Rattle.answer.specs.Steps.TableLines.{linesFrom}
 use Rattle.answer.proofs.Surveys.{table-modulus, length-lines, lines-next, lines-end}
 use borrow.Author.Needs.{needs}
 use Rattle.answer.proofs.survey.put_polynomials.Statement.{statement}

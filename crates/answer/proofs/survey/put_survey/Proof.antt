@@ -10,7 +10,7 @@ use Rattle.text.proofs.Form.{six-none, six-more}
 use Rattle.text.proofs.Lengths.{length-line}
 use Rattle.text.proofs.Places.{put-join, put-long}
 use Rattle.answer.specs.Due.{surveyLines}
-use Rattle.answer.specs.Steps.Replied.{linesFrom}
+use Rattle.answer.specs.Steps.TableLines.{linesFrom}
 use Rattle.answer.proofs.Surveys.{starts-rise, start-most, survey-text, survey-length}
 use Rattle.answer.proofs.Replies.{lines-written, lines-short}
 use borrow.Author.Needs.{needs}
