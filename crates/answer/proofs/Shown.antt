@@ -1,11 +1,12 @@
--- What the program shows after a call with at least 52,877 bytes: the answer, or the refusal's line, and every byte behind it as before.
--- Assumes nothing.
+-- What the program shows after a call with at least 52,877 bytes: the answer, or the refusal's line, and every byte behind it as before. The bytes
+-- shown are fixed by the text alone (`shown-text`, `one-shown`). Assumes nothing.
 use mathlib.Core.Path.{_≡_, refl, sym, ap, _∙_}
 use mathlib.Core.List.{List, [], _∷_, _++_}
 use Prim.Native.Nat.{ℕ, zero, suc, _≤_}
 use native.Mathlib.Omega.{arith}
 use borrow.Author.Tests.{le-leb}
-use lib.ListN.{length, drop, length-append}
+use lib.ListN.{length, take, drop, length-append}
+use lib.Seq.{take-at}
 use Rattle.text.specs.Text.{answerText}
 use Rattle.text.proofs.Lengths.{length-line}
 use Rattle.answer.specs.Due.{due}
@@ -60,3 +61,13 @@ module _ {text space after : List ℕ} {number size : ℕ} (a : Answered text sp
 pub shown-most : {text space after : List ℕ} {count : ℕ} → Shown text space after count → count ≤ length after
 shown-most {text} {space = space} {count = count} s =
     omega (arith, s .count-is, ap length (s .bytes), length-append (textOf (due text .number) (due text .value)) (drop count space))
+
+-- what is shown is the text that is due
+pub shown-text : {text space after : List ℕ} {count : ℕ} → Shown text space after count → take count after ≡ textOf (due text .number) (due text .value)
+shown-text {text} {space = space} {count = count} s =
+    ap (take count) (s .bytes) ∙ take-at (textOf (due text .number) (due text .value)) (drop count space) count (sym (s .count-is))
+
+-- so it is the same whatever the space held
+pub one-shown : {text space space′ after after′ : List ℕ} {count count′ : ℕ} → Shown text space after count → Shown text space′ after′ count′
+    → take count after ≡ take count′ after′
+one-shown s t = shown-text s ∙ sym (shown-text t)

@@ -1,6 +1,6 @@
 -- Request Three. The lines of a survey behind line one ascend strictly by polynomial (`lines-ascend`), every irreducible polynomial of the degree
--- has its line (`every-polynomial`), and every line is that of such a polynomial (`only-polynomials`). The text of an accepted survey is the text
--- of these words (`survey-answered`), and they leave no other (`survey-one-text`). Assumes nothing.
+-- has its line (`every-polynomial`), and every line is that of such a polynomial (`only-polynomials`). Of the text of an accepted survey
+-- `SurveyText` holds, which says so (`survey-answered`), and it holds of one text alone (`survey-one-text`). Assumes nothing.
 use mathlib.Core.Path.{_≡_, refl, sym, ap, _∙_}
 use mathlib.Core.Bool.{_||_}
 use mathlib.Core.List.{List, [], _∷_, map, List·Memᴰ, Memᴰ·map, Memᴰ·of-map}
@@ -53,7 +53,8 @@ unfolding surveyLines
 every-polynomial m p h i e = Memᴰ·map surveyLine (polynomials-exactly m p h .1 (i, e))
 
 -- every line is that of such a polynomial
-pub only-polynomials : (m : ℕ) (line : List ℕ) → 0 < m → List·Memᴰ line (behind m) → (p : ℕ) × Irreducible p × (degree p ≡ m) × (surveyLine p ≡ line)
+pub only-polynomials : (m : ℕ) (line : List ℕ) → 0 < m → List·Memᴰ line (behind m)
+    → (p : ℕ) × Irreducible p × (degree p ≡ m) × (surveyLine p ≡ line)
 unfolding surveyLines
 only-polynomials m line h b =
     let (p, k, e) = Memᴰ·of-map surveyLine (polynomials m) b in
@@ -62,7 +63,7 @@ only-polynomials m line h b =
 
 -- ---- the text
 
--- the text of these lines is the text of the words
+-- `SurveyText` holds of the text of these lines
 pub survey-words : (m : ℕ) → 0 < m → SurveyText m (answerText (surveyLines m))
 unfolding surveyLines
 survey-words m h =
@@ -73,14 +74,17 @@ survey-words m h =
       complete = λ p. (polynomials-exactly m p h .1, polynomials-exactly m p h .0);
     }
 
--- no two texts are
+-- and of no other
 pub survey-one-text : (m : ℕ) {reply reply′ : List ℕ} → SurveyText m reply → SurveyText m reply′ → reply ≡ reply′
-survey-one-text m s t =
-    let same : s .listed ≡ t .listed = ascends-same (rises s) (rises t) (λ p. (λ k. t .complete p .0 (s .complete p .1 k), λ k. s .complete p .0 (t .complete p .1 k))) in
-    s .is-text ∙ ap (λ (l : List ℕ). answerText ((0 ∷ length l ∷ []) ∷ map surveyLine l)) same ∙ sym (t .is-text)
+survey-one-text m s t = s .is-text ∙ ap (λ (l : List ℕ). answerText ((0 ∷ length l ∷ []) ∷ map surveyLine l)) same ∙ sym (t .is-text)
   where
     rises : {reply : List ℕ} (s : SurveyText m reply) → Ascends 0 (s .listed)
     rises s = places-ascend 0 (s .listed) (λ i l. zero-le) (s .ascend)
+
+    same : s .listed ≡ t .listed
+    same =
+        ascends-same (rises s) (rises t)
+        (λ p. (λ k. t .complete p .0 (s .complete p .1 k), λ k. s .complete p .0 (t .complete p .1 k)))
 
 -- ---- an accepted survey
 

@@ -118,12 +118,13 @@ ascends-same no-more (rise {k = k} h a) same = absurd (List·Memᴰ·not-nil (sa
 ascends-same (rise {k = k} h a) no-more same = absurd (List·Memᴰ·not-nil (same k .0 (List·Memᴰ·head refl)))
 ascends-same (rise {k = k} {l = l} h a) (rise {k = k′} {l = r} h′ a′) same = ap₂ (λ (x : ℕ) (y : List ℕ). x ∷ y) first (ascends-same a a′ rest)
   where
-    least : {x y : ℕ} {t : List ℕ} → Ascends (suc y) t → List·Memᴰ x (y ∷ t) → y ≤ x
-    least b (List·Memᴰ·head e) = omega arith
-    least b (List·Memᴰ·tail m) = omega (arith, ascends-above b m)
-
     first : k ≡ k′
-    first = omega (arith, least a′ (same k .0 (List·Memᴰ·head refl)), least a (same k′ .1 (List·Memᴰ·head refl)))
+    first =
+        omega (
+          arith,
+          ascends-above (rise (le-refl k′) a′) (same k .0 (List·Memᴰ·head refl)),
+          ascends-above (rise (le-refl k) a) (same k′ .1 (List·Memᴰ·head refl)),
+        )
 
     behind : {x y : ℕ} {t : List ℕ} → y < x → List·Memᴰ x (y ∷ t) → List·Memᴰ x t
     behind r (List·Memᴰ·head e) = let z : ⊥ = omega arith in absurd z
