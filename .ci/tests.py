@@ -21,6 +21,7 @@ sys.dont_write_bytecode = True
 ROOT = os.path.dirname(os.path.dirname(os.path.realpath(__file__)))
 sys.path[:0] = [os.path.join(ROOT, "second"), os.path.join(ROOT, "bench")]
 
+import measure
 import plot
 import reference
 import rowtext
@@ -330,6 +331,7 @@ class Ask(Place):
         status, shown, said = self.asked(self.BRIEF, answer)
         self.assertEqual((status, said), (0, ""))
         self.assertIn("the lightest row: 1 4 9 13", shown)
+        self.assertIn("least count, of equal counts the least depth", shown)
         self.assertEqual(self.asked(self.BRIEF, self.program("printf '     9\\n'"))[0], 1)
 
     def test_wrong_use(self):
@@ -686,6 +688,31 @@ class Comparison(Place):
         ):
             self.assertEqual(len(list(compare.differing_kinds({check: of_check, gates: of_gates}))), differ, (of_check, of_gates))
 
+    def test_where_depth_decides_is_seen(self):
+        compare = load("second/compare")
+        texts = [rowtext.request(rowtext.SEARCH, p, 4, list(range(1, 16))) for p in (19, 31)]
+        self.assertEqual([compare.is_decided(text) for text in texts], [False, True])
+        parts, expected = ["ties_of_order_four", "ties_of_order_four", "sizes"], [rowtext.line([0])] * 3
+        decided = compare.decided_by_depth(parts, [*texts, texts[1]], expected)
+        self.assertEqual(decided, {"ties_of_order_four": 1, "ties_of_order_eight": 0})
+        self.assertEqual(len(list(compare.too_few(decided))), 2)
+        self.assertEqual(len(list(compare.too_few(dict(decided, ties_of_order_four=1000)))), 1)
+        self.assertEqual(list(compare.too_few(compare.LEAST_DECIDED)), [])
+
+    def test_sets_with_ties_have_them(self):
+        compare, dice = load("second/compare"), random.Random(5)
+        for m, n in ((4, 4), (6, 4), (8, 4), (8, 8)):
+            drawn = [samples.tied(dice, m, n) for _ in range(8)]
+            decided = [compare.is_decided(rowtext.request(rowtext.SEARCH, p, n, candidates)) for p, candidates in drawn]
+            self.assertGreater(sum(decided), 2, (m, n))
+
+    def test_the_depth_of_a_printed_row(self):
+        sources = load("second/sources")
+        check, search = rowtext.request(rowtext.CHECK, 31, 4, rowtext.hadamard([1, 2, 4, 6])), reference.ALL_OVER_31
+        self.assertEqual((sources.depth_of(check), sources.depth_of(search)), (4, 3))
+        refused = run([rowtext.SECOND, "depth"], input=reference.TWO_LINES.decode(), stdin=None)
+        self.assertEqual(refused, (0, "refused 2\n", ""))
+
     def test_a_stale_page_of_sources_is_seen(self):
         sources = load("second/sources")
         page = read(os.path.join(ROOT, "docs", "SOURCES.md"))
@@ -727,6 +754,15 @@ class Bench(Place):
         self.assertEqual((status, said), (0, ""))
         self.assertEqual([(read(path), os.stat(path).st_mtime_ns) for path in kept], before)
         self.assertIn("--quick", read(os.path.join(ROOT, "target", "bench", "RESULTS.md")))
+
+    def test_the_c_program_finds_the_same_rows(self):
+        measure.build_tuned()
+        dice, texts = random.Random(6), [text for _, text, _ in reference.depth_lines()]
+        for m, n in 12 * ((4, 4), (6, 4), (7, 4), (8, 4), (8, 8)):
+            p, candidates = samples.tied(dice, m, n)
+            texts.append(rowtext.request(rowtext.SEARCH, p, n, candidates))
+        for text in texts:
+            self.assertEqual(rowtext.run(measure.TUNED, text), rowtext.run(rowtext.SECOND, text), text)
 
     def test_the_drawing_names_its_axes(self):
         curves = [plot.Curve("rowfind", family, [(8, 0.001), (16, 0.08)]) for family in ("random", "hard")]

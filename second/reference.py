@@ -1,5 +1,5 @@
-"""The reference lines of document 01, with the counts of request One, the gates of request Two and the order of request Three, as
-whole request and answer texts; a text for each refusal."""
+"""The reference lines of document 01, with the counts of request One, the gates of request Two, the order of request Three and the
+rows of request Four, as whole request and answer texts; a text for each refusal."""
 from rowtext import ALWAYS_ZERO, CHECK, GATES, SEARCH, SURVEY, circulant, hadamard, line, request
 
 WORKED_REQUEST = b"     1    19     4     4\n     1     4     9    13\n"
@@ -28,6 +28,30 @@ def search_lines():
     yield "candidates 1 3 8 11", request(SEARCH, 19, 4, [1, 3, 8, 11]), line([9])
     yield "candidates 1 4 9", request(SEARCH, 19, 4, [1, 4, 9]), line([9])
     yield "all fifteen over 19", request(SEARCH, 19, 4, list(range(1, 16))), found
+
+
+ELEVEN_OVER_31 = b"""     1    31     4    11
+     1     2     3     4     6     7     8     9    10    12    14
+"""
+ALL_OVER_31 = b"""     1    31     4    15
+     1     2     3     4     5     6     7     8     9    10    11    12    13    14    15
+"""
+
+
+def depth_lines():
+    """Of equal counts the least depth. Over 31 the rows 1 2 4 6, 1 2 8 10, 1 2 13 15 and 1 4 8 12 count 24. An output bit of the
+    first two joins 9 input bits (depth 4), one of the last two at most 7 (depth 3)."""
+    eleven = b"     0    12    24    96\n     1     4     8    12\n"
+    fifteen = b"     0    12    24    96\n     1     2    13    15\n"
+    yield "all fifteen over 31", ALL_OVER_31, fifteen
+    yield "eleven candidates over 31", ELEVEN_OVER_31, eleven
+    yield "candidates 1 2 4 6 over 31", request(SEARCH, 31, 4, [1, 2, 4, 6]), line([0, 12, 24, 96]) + line([1, 2, 4, 6])
+    yield "both, of which one is shallower", request(SEARCH, 31, 4, [15, 13, 6, 4, 2, 1]), fifteen
+    # 1 8 16 24 is shallower and earlier, and counts 32.
+    lighter = line([0, 12, 30, 120]) + line([1, 8, 49, 57])
+    yield "a row that is lighter, and deeper", request(SEARCH, 67, 4, [1, 8, 16, 24, 49, 57]), lighter
+    of_order_eight = line([0, 36, 64, 512]) + line([2, 3, 4, 12, 5, 10, 8, 15])
+    yield "all fifteen over 19 at order 8", request(SEARCH, 19, 8, list(range(1, 16))), of_order_eight
 
 
 def check_lines():
@@ -134,7 +158,7 @@ def limit_lines():
 
 def reference_lines():
     """(name, request text, answer text)"""
-    for part in (search_lines, check_lines, zero_lines, survey_lines, field_lines, gate_lines, limit_lines):
+    for part in (search_lines, depth_lines, check_lines, zero_lines, survey_lines, field_lines, gate_lines, limit_lines):
         yield from part()
 
 

@@ -15,13 +15,52 @@ def elements(dice, p, how_many):
     return dice.sample(range(1, most + 1), min(how_many, most))
 
 
-def with_sum_one(dice, p, count):
-    """Candidates of which eight sum to 1, so that a search of order 8 has something to try."""
+def with_sum_one(dice, p, count, n=8):
+    """Candidates of which n sum to 1, so that a search of order n has something to try."""
     while True:
         chosen = elements(dice, p, count)
-        rest = functools.reduce(operator.xor, chosen[:7], 1)
-        if rest and rest not in chosen[:7]:
-            return list(dict.fromkeys(chosen[:7] + [rest] + chosen[7:]))[:count]
+        rest = functools.reduce(operator.xor, chosen[: n - 1], 1)
+        if rest and rest not in chosen[: n - 1]:
+            return list(dict.fromkeys(chosen[: n - 1] + [rest] + chosen[n - 1 :]))[:count]
+
+
+@functools.cache
+def line_ones(p, a):
+    """The ones in each line of an element's bit matrix, whose column k is a times 2^k."""
+    columns = [field_product(p, a, 1 << k) for k in range(degree(p))]
+    return [sum(column >> bit & 1 for column in columns) for bit in range(degree(p))]
+
+
+def ones(p, row):
+    """The ones of all output bits of a row."""
+    return sum(sum(line_ones(p, a)) for a in row)
+
+
+def depth(p, row):
+    return max((sum(bits) - 1).bit_length() for bits in zip(*(line_ones(p, a) for a in row)))
+
+
+def swaps(p, row, a, b):
+    """The pairs that can stand in the row in the place of a and b, with the same sum and the same count."""
+    for c in range(1, 1 << degree(p)):
+        d = a ^ b ^ c
+        if d and not {c, d} & set(row) and ones(p, (c, d)) == ones(p, (a, b)):
+            yield c, d
+
+
+def tied(dice, m, n):
+    """A polynomial of degree m, n candidates that sum to 1, and two that can stand in the place of two of them: the set is then as
+    light and shallower, but later in dictionary order. Where both sets give good rows, depth decides a search of order n."""
+    while True:
+        p = dice.choice(OF_DEGREE[m])
+        row = with_sum_one(dice, p, n, n)
+        if 2 * ones(p, row) > m << depth(p, row):
+            continue  # even shared out evenly, the ones are too many for a shallower row
+        a, b = dice.sample(row, 2)
+        for c, d in swaps(p, row, a, b):
+            other = sorted({*row, c, d} - {a, b})
+            if depth(p, other) < depth(p, row) and sorted(row) < other:
+                return p, dice.sample([*row, c, d], n + 2)
 
 
 def low_rank(dice, p, n):

@@ -90,8 +90,8 @@ class Netlist(NamedTuple):
 
 
 def search(polynomial, order, candidates):
-    """The lightest row of order 4 or 8 over the candidates that is an MDS involution, the first of these in dictionary order.
-    Where there is none, Refused with number 9."""
+    """The lightest row of order 4 or 8 over the candidates that is an MDS involution: of equal counts the one of least depth, of
+    these the first in dictionary order. Where there is none, Refused with number 9."""
     (_, *counts), row = numbers(answer(request(SEARCH, polynomial, order, candidates)))
     return Row(row, *counts)
 

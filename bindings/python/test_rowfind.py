@@ -70,6 +70,8 @@ class Functions(unittest.TestCase):
         found = rowfind.search(19, 4, iter([13, 9, 4, 1]))
         self.assertEqual(found, rowfind.Row([1, 4, 9, 13], 6, 18, 72))
         self.assertEqual(rowfind.search(Index(19), Index(4), map(Index, range(1, 16))), found)
+        # 1 2 4 6 is as light and earlier, and deeper.
+        self.assertEqual(rowfind.search(31, 4, range(1, 16)), rowfind.Row([1, 2, 13, 15], 12, 24, 96))
 
     def test_check(self):
         fips = [[2, 3, 1, 1], [1, 2, 3, 1], [1, 1, 2, 3], [3, 1, 1, 2]]

@@ -3,8 +3,8 @@
 use crate::distance::{branch_number, lightest_word, Word};
 use crate::field::{degree, irreducible, Field, Fields};
 use crate::gates::Netlist;
-use crate::matrix::{line_count, Matrix};
-use crate::search::lightest_row;
+use crate::matrix::{line_count, line_depth, Matrix};
+use crate::search::{lightest_row, lightest_row_of_any_depth};
 use crate::text::{line_of, read_request, Request};
 
 /// A refusal's number, 1 to 9.
@@ -29,6 +29,21 @@ impl Answerer {
             return Err(2);
         }
         Ok(lightest_word(self.fields.of(request.polynomial), &matrix_of(&request)))
+    }
+
+    /// Rows and their depths. For a check: its first line. For a search: the row that is found, and the one that would be
+    /// if depth did not count.
+    pub fn depths(&mut self, text: &[u8]) -> Result<Vec<(u32, Vec<u8>)>, Refusal> {
+        let request = judged(text)?;
+        if request.kind != 1 && request.kind != 2 {
+            return Err(2);
+        }
+        let field = self.fields.of(request.polynomial);
+        let rows = match request.kind {
+            1 => both_rows(field, &request)?,
+            _ => vec![elements(&request)[..request.order as usize].to_vec()],
+        };
+        Ok(rows.into_iter().map(|row| (line_depth(field, &row), row)).collect())
     }
 
     fn accepted(&mut self, text: &[u8]) -> Result<String, Refusal> {
@@ -102,9 +117,19 @@ pub fn zero_or_repeated(values: &[u32]) -> bool {
     values.iter().enumerate().any(|(k, v)| *v == 0 || values[..k].contains(v))
 }
 
+/// The values, each of which is an element.
+fn elements(request: &Request) -> Vec<u8> {
+    request.values.iter().map(|&v| v as u8).collect()
+}
+
+fn both_rows(field: &Field, request: &Request) -> Result<Vec<Vec<u8>>, Refusal> {
+    let searches = [lightest_row, lightest_row_of_any_depth];
+    let found = searches.map(|search| search(field, request.order as usize, &elements(request)));
+    found.into_iter().map(|found| Ok(found.ok_or(9u32)?.row)).collect()
+}
+
 fn search_answer(field: &Field, request: &Request) -> Result<String, Refusal> {
-    let candidates: Vec<u8> = request.values.iter().map(|&v| v as u8).collect();
-    let found = lightest_row(field, request.order as usize, &candidates).ok_or(9u32)?;
+    let found = lightest_row(field, request.order as usize, &elements(request)).ok_or(9u32)?;
     let row_count = line_count(field, &found.row);
     let row: Vec<u32> = found.row.iter().map(|&h| h as u32).collect();
     Ok(line_of(&[0, found.sum, row_count, request.order * row_count]) + &line_of(&row))
@@ -170,6 +195,36 @@ mod tests {
         assert_eq!(ask(1, 19, 4, &[1, 4, 9]), [9]);
         let fifteen: Vec<u32> = (1..16).collect();
         assert_eq!(ask(1, 19, 4, &fifteen), [0, 6, 18, 72, 1, 4, 9, 13]);
+    }
+
+    /// Least count, then least depth, then first in dictionary order.
+    #[test]
+    fn reference_searches_by_depth() {
+        let fifteen: Vec<u32> = (1..16).collect();
+        assert_eq!(ask(1, 31, 4, &fifteen), [0, 12, 24, 96, 1, 2, 13, 15]);
+        assert_eq!(ask(1, 31, 4, &[1, 2, 3, 4, 6, 7, 8, 9, 10, 12, 14]), [0, 12, 24, 96, 1, 4, 8, 12]);
+        assert_eq!(ask(1, 31, 4, &[1, 2, 4, 6]), [0, 12, 24, 96, 1, 2, 4, 6]);
+        // 1 8 16 24 is shallower and earlier, and heavier.
+        assert_eq!(ask(1, 67, 4, &[1, 8, 16, 24, 49, 57]), [0, 12, 30, 120, 1, 8, 49, 57]);
+        assert_eq!(ask(1, 19, 8, &fifteen), [0, 36, 64, 512, 2, 3, 4, 12, 5, 10, 8, 15]);
+    }
+
+    #[test]
+    fn depths_of_a_check_and_of_a_search() {
+        let depths = |kind, polynomial, order, values: &[u32]| {
+            let text = text_of([kind, polynomial, order, values.len() as u32], values);
+            Answerer::default().depths(text.as_bytes())
+        };
+        assert_eq!(depths(2, 31, 4, &hadamard(&[1, 2, 4, 6])), Ok(vec![(4, vec![1, 2, 4, 6])]));
+        assert_eq!(depths(2, 7, 2, &[0, 0, 1, 1]), Ok(vec![(0, vec![0, 0])]));
+        let fifteen: Vec<u32> = (1..16).collect();
+        assert_eq!(depths(1, 31, 4, &fifteen), Ok(vec![(3, vec![1, 2, 13, 15]), (4, vec![1, 2, 4, 6])]));
+        assert_eq!(depths(1, 19, 4, &fifteen), Ok(vec![(3, vec![1, 4, 9, 13]); 2]));
+        assert_eq!(depths(1, 19, 4, &[1, 2, 4, 8]), Err(9));
+        assert_eq!(
+            [depths(3, 4, 0, &[]), depths(4, 7, 1, &[3]), depths(2, 21, 1, &[1])],
+            [Err(2), Err(2), Err(4)]
+        );
     }
 
     #[test]

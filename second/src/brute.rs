@@ -62,15 +62,35 @@ pub fn rows(candidates: &[u8], order: usize) -> impl Iterator<Item = Vec<u8>> + 
     })
 }
 
-/// Of all rows over the candidates that are good, the least by count, then by dictionary order.
+/// The depth of a line: for each output bit the inputs with one bit that set it are counted, and the least d with 2^d at
+/// least that many is taken; of these the greatest.
+pub fn depth(field: &Field, line: &[u8]) -> u32 {
+    let matrix = Matrix::from_entries(line.len(), |i, j| if i == 0 { line[j] } else { 0 });
+    let mut ones = [0; MOST];
+    for (j, k) in (0..line.len()).flat_map(|j| (0..field.degree).map(move |k| (j, k))) {
+        let mut input = [0; MOST];
+        input[j] = 1 << k;
+        let output = matrix.apply(field, &input)[0];
+        (0..field.degree).for_each(|bit| ones[bit] += output as usize >> bit & 1);
+    }
+    ones.iter().map(|&t| (0..).find(|&d| 1 << d >= t).unwrap()).max().unwrap()
+}
+
+/// The sum of the elements' counts, the depth and the row: the smaller one is the better row.
+pub type Key = (u32, u32, Vec<u8>);
+
+pub fn key(field: &Field, row: &[u8]) -> Key {
+    (row.iter().map(|&h| field.xor_count(h)).sum(), depth(field, row), row.to_vec())
+}
+
+/// Of all rows over the candidates that are good, the least by count, then by depth, then by dictionary order.
 pub fn lightest_row(
     field: &Field,
     candidates: &[u8],
     order: usize,
     good: impl Fn(&[u8]) -> bool,
-) -> Option<(u32, Vec<u8>)> {
-    let count = |row: &[u8]| row.iter().map(|&h| field.xor_count(h)).sum::<u32>();
-    rows(candidates, order).filter(|row| good(row)).map(|row| (count(&row), row)).min()
+) -> Option<Key> {
+    rows(candidates, order).filter(|row| good(row)).map(|row| key(field, &row)).min()
 }
 
 /// A sequence of numbers fixed by its start.

@@ -294,6 +294,9 @@ mod tests {
     fn searches() {
         let found = Yield { values: [6, 0, 0, 0], words: [1, 4, 9, 13, 0, 0, 0, 0] };
         assert_eq!(answer(on_row(SEARCH, 19, 4, &[1, 4, 9, 13], &[])), Ok(found));
+        // 1 2 4 6 is as light and earlier, and deeper.
+        let shallower = Yield { values: [12, 0, 0, 0], words: [1, 2, 13, 15, 0, 0, 0, 0] };
+        assert_eq!(answer(on_row(SEARCH, 31, 4, &[1, 2, 4, 6, 13, 15], &[])), Ok(shallower));
         let refused = |n, row: &[u8]| answer(on_row(SEARCH, 19, n, row, &[])).unwrap_err();
         assert_eq!([refused(4, &[1, 2, 4, 8]), refused(2, &[]), refused(4, &[])], [9, 5, 6]);
         assert_eq!([refused(8, &[16; 17]), refused(8, &[16, 0, 0]), refused(4, &[4, 4])], [6, 7, 8]);

@@ -5,6 +5,8 @@
 //!   and writes each answer in the same form, until its input ends.
 //! - `second calls` reads records of single calls and writes the record of each answer, until its input ends.
 //! - `second light` reads a check and writes an input of least weight and its output, if it is not MDS.
+//! - `second depth` reads a check and writes the depth of its first line; or a search, and writes the depth of the row
+//!   that is found and of the one that would be found if depth did not count.
 
 mod answer;
 #[cfg(test)]
@@ -28,8 +30,9 @@ fn main() -> io::Result<()> {
         Some("serve") => serve(),
         Some("calls") => calls(),
         Some("light") => light(),
+        Some("depth") => depth(),
         Some(other) => {
-            eprintln!("second: unknown mode '{other}': none, serve, calls or light");
+            eprintln!("second: unknown mode '{other}': none, serve, calls, light or depth");
             std::process::exit(2)
         }
     }
@@ -76,6 +79,17 @@ fn light() -> io::Result<()> {
         Err(refusal) => format!("refused {refusal}\n"),
         Ok(None) => "none\n".to_string(),
         Ok(Some((input, output))) => format!("input {input:?}\noutput {output:?}\n"),
+    };
+    io::stdout().write_all(text.as_bytes())
+}
+
+fn depth() -> io::Result<()> {
+    let spaced = |row: Vec<u8>| row.iter().map(u8::to_string).collect::<Vec<String>>().join(" ");
+    let text = match Answerer::default().depths(&read_text()) {
+        Err(refusal) => format!("refused {refusal}\n"),
+        Ok(rows) => {
+            rows.into_iter().map(|(depth, row)| format!("depth {depth} of {}\n", spaced(row))).collect()
+        }
     };
     io::stdout().write_all(text.as_bytes())
 }

@@ -1,4 +1,5 @@
-//! Matrices over a field: the product with an input, the determinant, the involution test and the matrix count.
+//! Matrices over a field: the product with an input, the determinant, the involution test, the matrix count and the
+//! depth of a line.
 
 use crate::field::Field;
 
@@ -76,8 +77,18 @@ pub fn line_count(field: &Field, line: &[u8]) -> u32 {
     (0..field.degree).map(|bit| joined(field, line, bit).saturating_sub(1)).sum()
 }
 
+/// The greatest depth of a line's output bits.
+pub fn line_depth(field: &Field, line: &[u8]) -> u32 {
+    (0..field.degree).map(|bit| depth_of(joined(field, line, bit))).max().unwrap_or(0)
+}
+
+/// The depth of an output bit that joins so many input bits: the least d with 2^d at least that.
+pub fn depth_of(ones: u32) -> u32 {
+    ones.next_power_of_two().trailing_zeros()
+}
+
 /// How many input bits an output bit of a line joins: bit k of word j where entry j times 2^k has the output bit.
-fn joined(field: &Field, line: &[u8], bit: usize) -> u32 {
+pub fn joined(field: &Field, line: &[u8], bit: usize) -> u32 {
     let ones = |a: u8| (0..field.degree).map(|k| u32::from(field.product(a, 1 << k) >> bit & 1)).sum::<u32>();
     line.iter().map(|&a| ones(a)).sum()
 }
@@ -114,6 +125,50 @@ mod tests {
                 assert_eq!(line_count(field, &line[..matrix.order]), elements + sums as u32, "{line:?}");
             }
         });
+    }
+
+    #[test]
+    fn depth_is_the_least_exponent_of_two_that_reaches_the_ones() {
+        assert_eq!([0, 1, 2, 3, 4, 5, 6, 7, 8, 9].map(depth_of), [0, 0, 1, 2, 2, 3, 3, 3, 3, 4]);
+        for ones in 0..=64 {
+            let d = depth_of(ones);
+            assert!(1 << d >= ones && (0..d).all(|less| 1 << less < ones), "{ones}");
+        }
+    }
+
+    /// Over 31 the bit matrix of 2 has the columns 2, 4, 8, 15, with 1, 1, 1 and 4 ones; its lines have no more than two.
+    #[test]
+    fn ones_are_those_of_lines_not_of_columns() {
+        let field = Field::new(31);
+        let ones = |row: &[u8]| [0, 1, 2, 3].map(|bit| joined(&field, row, bit));
+        assert_eq!(ones(&[2]), [1, 2, 2, 2]);
+        assert_eq!(line_depth(&field, &[2]), 1);
+        assert_eq!((ones(&[1, 2, 4, 6]), line_depth(&field, &[1, 2, 4, 6])), ([5, 7, 9, 7], 4));
+        assert_eq!((ones(&[1, 2, 13, 15]), line_depth(&field, &[1, 2, 13, 15])), ([7, 7, 7, 7], 3));
+        let field = Field::new(19);
+        assert_eq!([0, 1, 2, 3].map(|bit| joined(&field, &[1, 4, 9, 13], bit)), [7, 5, 5, 5]);
+        assert_eq!(line_depth(&field, &[1, 4, 9, 13]), 3);
+    }
+
+    #[test]
+    fn depth_of_a_line_equals_the_definition() {
+        brute::for_small_matrices(|field, matrix| {
+            for line in &matrix.entries[..matrix.order] {
+                let line = &line[..matrix.order];
+                assert_eq!(line_depth(field, line), brute::depth(field, line), "{line:?}");
+            }
+        });
+    }
+
+    /// The search counts on it for the places that it has not filled.
+    #[test]
+    fn every_output_bit_of_an_element_other_than_0_joins_an_input_bit() {
+        for p in [7, 11, 13, 19, 25, 31, 37, 67, 131, 283, 451] {
+            let field = Field::new(p);
+            for a in 1..field.size {
+                assert!((0..field.degree).all(|bit| joined(&field, &[a as u8], bit) >= 1), "{a} over {p}");
+            }
+        }
     }
 
     #[test]

@@ -1,11 +1,14 @@
-//! The lightest row: every row over the candidates, in dictionary order, the lightest good one kept.
+//! The lightest row: every row over the candidates, in dictionary order. Of the good ones the one with the least count
+//! is kept, of equal counts the one with the least depth, of equal depths the first.
 //!
-//! Rows are walked entry by entry. A beginning is left early where nothing good and lighter can follow:
+//! Rows are walked entry by entry. A beginning is left early where nothing good and better can follow:
 //!
 //! - The exclusive or of the row of an involution is 1, so the last entry follows from the others.
 //! - Two equal entries, at a and b, give the input with ones at words 0 and (a xor b) two zeros in its output, at
 //!   words a and b, so the matrix is not MDS: entries differ.
-//! - The count so far plus the least counts for the places left is not below the best count.
+//! - The count so far plus the least counts for the places left is above the best count; or it is the best count, and
+//!   a row of that count with this beginning has at least the best depth. Each place left adds a one or more to every
+//!   output bit, and some output bit has no fewer ones than they have on average.
 //! - Order 8: lines and columns of an index plane {a, b, c, a xor b xor c} cut a Hadamard matrix of order 4 out of the
 //!   large one. A light input of it, padded with zeros, is light for the large one, so all 14 of them are MDS.
 //!   Whether four candidates give an MDS matrix does not depend on their order, and stands in a table.
@@ -14,20 +17,26 @@
 
 use crate::distance::{is_mds, may_be_mds};
 use crate::field::Field;
-use crate::matrix::{Matrix, MOST};
+use crate::matrix::{depth_of, joined, Matrix, MOST};
+use std::cmp::Ordering::{Equal, Greater, Less};
 
-/// A row and the sum of its elements' counts.
+/// A row, the sum of its elements' counts, and its depth, which is 0 where the search does not look at it.
 #[derive(Clone, PartialEq, Eq, Debug)]
 pub struct Found {
     pub sum: u32,
+    pub depth: u32,
     pub row: Vec<u8>,
 }
 
-/// The lightest good row of order 4 or 8 over different nonzero candidates; among equals the first in the dictionary.
+/// The lightest good row of order 4 or 8 over different nonzero candidates; of equal counts the shallowest, of these the
+/// first in the dictionary.
 pub fn lightest_row(field: &Field, order: usize, candidates: &[u8]) -> Option<Found> {
-    let mut search = Search::new(field, order, candidates);
-    search.extend(0, 0, 1, 0);
-    search.best
+    Search::new(field, order, candidates, true).run()
+}
+
+/// The lightest good row that is first in the dictionary, whatever its depth: for telling where depth decides.
+pub fn lightest_row_of_any_depth(field: &Field, order: usize, candidates: &[u8]) -> Option<Found> {
+    Search::new(field, order, candidates, false).run()
 }
 
 /// Both properties of a row.
@@ -45,6 +54,9 @@ struct Search<'a> {
     place: Vec<Option<usize>>,
     /// `least[k]` is the sum of the k smallest candidate counts.
     least: Vec<u32>,
+    /// For each candidate the ones of its output bits.
+    ones: Vec<[u8; MOST]>,
+    by_depth: bool,
     /// For order 8: whether the candidates whose places are the bits of the index give an MDS matrix of order 4.
     good_fours: Vec<bool>,
     /// The places of the row's entries so far.
@@ -54,54 +66,95 @@ struct Search<'a> {
 }
 
 impl<'a> Search<'a> {
-    fn new(field: &'a Field, order: usize, candidates: &[u8]) -> Search<'a> {
+    fn new(field: &'a Field, order: usize, candidates: &[u8], by_depth: bool) -> Search<'a> {
         let mut candidates = candidates.to_vec();
         candidates.sort();
         let mut place = vec![None; field.size];
         candidates.iter().enumerate().for_each(|(k, &h)| place[h as usize] = Some(k));
         let least = least_sums(field, &candidates, order);
+        let ones = candidates.iter().map(|&h| ones_of(field, h)).collect();
         let good_fours = if order == 8 { good_fours(field, &candidates) } else { Vec::new() };
         let (chosen, used) = ([0; MOST], [false; 256]);
-        Search { field, order, candidates, place, least, good_fours, chosen, used, best: None }
+        Search {
+            field,
+            order,
+            candidates,
+            place,
+            least,
+            ones,
+            by_depth,
+            good_fours,
+            chosen,
+            used,
+            best: None,
+        }
     }
 
-    /// All rows with the chosen beginning; `rest` is what the entries left must sum to.
-    fn extend(&mut self, depth: usize, sum: u32, rest: u8, planes_from: usize) {
-        if depth + 1 == self.order {
+    fn run(mut self) -> Option<Found> {
+        self.extend(0, 0, 1, 0);
+        self.best
+    }
+
+    /// All rows with the chosen beginning, so many entries; `rest` is what the entries left must sum to.
+    fn extend(&mut self, filled: usize, sum: u32, rest: u8, planes_from: usize) {
+        if filled + 1 == self.order {
             if let Some(last) = self.place.get(rest as usize).copied().flatten() {
-                self.place_entry(depth, last, sum, rest, planes_from);
+                self.place_entry(filled, last, sum, rest, planes_from);
             }
             return;
         }
         for k in 0..self.candidates.len() {
-            self.place_entry(depth, k, sum, rest, planes_from);
+            self.place_entry(filled, k, sum, rest, planes_from);
         }
     }
 
     /// Candidate k as the next entry.
-    fn place_entry(&mut self, depth: usize, k: usize, sum: u32, rest: u8, planes_from: usize) {
-        let h = self.candidates[k];
-        let sum = sum + self.field.xor_count(h);
-        if self.used[k] || self.too_heavy(sum, self.order - depth - 1) {
+    fn place_entry(&mut self, filled: usize, k: usize, sum: u32, rest: u8, planes_from: usize) {
+        if self.used[k] {
             return;
         }
-        self.chosen[depth] = k;
-        let planes_to = planes_from + planes_ending(&PLANES[planes_from..], depth);
+        self.chosen[filled] = k;
+        let h = self.candidates[k];
+        let sum = sum + self.field.xor_count(h);
+        if self.is_beaten(filled + 1, sum) {
+            return;
+        }
+        let planes_to = planes_from + planes_ending(&PLANES[planes_from..], filled);
         if self.order == 8 && !PLANES[planes_from..planes_to].iter().all(|plane| self.is_good_four(plane)) {
             return;
         }
-        if depth + 1 == self.order {
+        if filled + 1 == self.order {
             self.judge(sum);
             return;
         }
         self.used[k] = true;
-        self.extend(depth + 1, sum, rest ^ h, planes_to);
+        self.extend(filled + 1, sum, rest ^ h, planes_to);
         self.used[k] = false;
     }
 
-    /// Rows walked later stand later in the dictionary, so only a smaller count counts.
-    fn too_heavy(&self, sum: u32, left: usize) -> bool {
-        self.least.len() <= left || self.best.as_ref().is_some_and(|best| sum + self.least[left] >= best.sum)
+    /// Whether every row with the chosen beginning is heavier than the best, or as heavy and not shallower. Rows walked
+    /// later stand later in the dictionary.
+    fn is_beaten(&self, filled: usize, sum: u32) -> bool {
+        let Some(least) = self.least.get(self.order - filled) else { return true };
+        self.best.as_ref().is_some_and(|best| match (sum + least).cmp(&best.sum) {
+            Less => false,
+            Equal => self.least_depth(filled, best.sum) >= best.depth,
+            Greater => true,
+        })
+    }
+
+    /// What the depth of a row with the chosen beginning and this sum of counts is at least, and of a whole row its depth.
+    fn least_depth(&self, filled: usize, sum: u32) -> u32 {
+        if !self.by_depth {
+            return 0;
+        }
+        let mut ones = [(self.order - filled) as u8; MOST];
+        for &k in &self.chosen[..filled] {
+            ones.iter_mut().zip(self.ones[k]).for_each(|(total, more)| *total += more);
+        }
+        // The bit matrix of an element has as many ones as its count, and one for each output bit.
+        let average = self.order as u32 + sum.div_ceil(self.field.degree as u32);
+        depth_of(ones.into_iter().map(u32::from).fold(average, u32::max))
     }
 
     fn is_good_four(&self, plane: &[usize; 4]) -> bool {
@@ -111,7 +164,7 @@ impl<'a> Search<'a> {
     fn judge(&mut self, sum: u32) {
         let row: Vec<u8> = self.chosen[..self.order].iter().map(|&k| self.candidates[k]).collect();
         if may_be_mds(self.field, &Matrix::hadamard(&row)) && is_good(self.field, &row) {
-            self.best = Some(Found { sum, row });
+            self.best = Some(Found { sum, depth: self.least_depth(self.order, sum), row });
         }
     }
 }
@@ -137,6 +190,11 @@ const PLANES: [[usize; 4]; 14] = [
 /// How many of the planes, from the first on, end at this index.
 fn planes_ending(planes: &[[usize; 4]], index: usize) -> usize {
     planes.iter().take_while(|plane| plane[3] == index).count()
+}
+
+/// The ones of an element's output bits; 0 behind the last.
+fn ones_of(field: &Field, a: u8) -> [u8; MOST] {
+    std::array::from_fn(|bit| if bit < field.degree { joined(field, &[a], bit) as u8 } else { 0 })
 }
 
 /// Sums of the 0, 1, 2, ... smallest counts, at most as many as the order.
@@ -166,8 +224,8 @@ mod tests {
     use super::*;
     use crate::brute;
 
-    fn pair(found: Option<Found>) -> Option<(u32, Vec<u8>)> {
-        found.map(|f| (f.sum, f.row))
+    fn key(found: Option<Found>) -> Option<brute::Key> {
+        found.map(|f| (f.sum, f.depth, f.row))
     }
 
     /// The nonzero elements whose bits are set in the number.
@@ -201,7 +259,7 @@ mod tests {
                 let candidates = subset(set);
                 let expected =
                     brute::lightest_row(&field, &candidates, 4, |row| good.iter().any(|g| g == row));
-                assert_eq!(pair(lightest_row(&field, 4, &candidates)), expected, "{candidates:?}");
+                assert_eq!(key(lightest_row(&field, 4, &candidates)), expected, "{candidates:?}");
             }
         }
     }
@@ -215,9 +273,67 @@ mod tests {
                 let candidates = subset(sequence.below(1 << 15) & 0x7abd | 1);
                 let few = &candidates[..candidates.len().min(6)];
                 let expected = brute::lightest_row(&field, few, 4, |row| brute::is_good(&field, row));
-                assert_eq!(pair(lightest_row(&field, 4, few)), expected, "{few:?}");
+                assert_eq!(key(lightest_row(&field, 4, few)), expected, "{few:?}");
             }
         }
+    }
+
+    /// All 15^4 rows over degree 4, and the entries of every two good rows as candidates.
+    #[test]
+    fn order_four_over_degree_four_every_two_good_rows() {
+        let (fifteen, mut decided) = (subset(0x7fff), 0);
+        for polynomial in [19, 25, 31] {
+            let field = Field::new(polynomial);
+            let good = |row: &Vec<u8>| row.iter().fold(1, |s, h| s ^ h) == 0 && is_good(&field, row);
+            let rows = brute::rows(&fifteen, 4).filter(good);
+            let keys: Vec<brute::Key> = rows.map(|row| brute::key(&field, &row)).collect();
+            let sets: Vec<&brute::Key> = keys.iter().filter(|key| key.2.is_sorted()).collect();
+            for (one, other) in sets.iter().flat_map(|one| sets.iter().map(move |other| (one, other))) {
+                let candidates: Vec<u8> =
+                    (1..16).filter(|h| one.2.contains(h) || other.2.contains(h)).collect();
+                let over: Vec<&brute::Key> =
+                    keys.iter().filter(|key| key.2.iter().all(|h| candidates.contains(h))).collect();
+                let expected = over.iter().min().copied().unwrap();
+                let found = lightest_row(&field, 4, &candidates);
+                assert_eq!(key(found).as_ref(), Some(expected), "{candidates:?}");
+                let first = over.iter().min_by_key(|key| (key.0, &key.2)).unwrap();
+                let of_any_depth = lightest_row_of_any_depth(&field, 4, &candidates).unwrap();
+                assert_eq!(of_any_depth.row, first.2);
+                decided += (first.2 != expected.2) as usize;
+            }
+        }
+        assert!(decided > 100, "{decided}");
+    }
+
+    /// The count comes before the depth: the lightest row is first or last in the dictionary, and a heavier one shallower.
+    #[test]
+    fn order_four_over_degree_six_where_a_heavier_row_is_shallower() {
+        for (polynomial, candidates) in [
+            (67, [1, 8, 16, 24, 49, 57]),
+            (67, [1, 8, 33, 41, 49, 57]),
+            (73, [1, 2, 4, 6, 9, 11]),
+            (73, [1, 2, 4, 6, 18, 22]),
+        ] {
+            let field = Field::new(polynomial);
+            let good = |row: &[u8]| row.iter().fold(1, |s, h| s ^ h) == 0 && is_good(&field, row);
+            let expected = brute::lightest_row(&field, &candidates, 4, good);
+            let rows = brute::rows(&candidates, 4).filter(|row| good(row));
+            let shallowest = rows.map(|row| brute::depth(&field, &row)).min();
+            assert_eq!((expected.as_ref().map(|key| key.1), shallowest), (Some(4), Some(3)));
+            assert_eq!(key(lightest_row(&field, 4, &candidates)), expected);
+        }
+    }
+
+    /// The last entries of the best row add a single one to the output bit that decides: no beginning may be left in the
+    /// belief that they add more.
+    #[test]
+    fn order_four_over_degree_eight_where_the_last_entries_add_little() {
+        let field = Field::new(283);
+        let candidates = [45, 53, 98, 100, 122, 133, 156, 174, 226];
+        let good = |row: &[u8]| row.iter().fold(1, |s, h| s ^ h) == 0 && is_good(&field, row);
+        let expected = brute::lightest_row(&field, &candidates, 4, good);
+        assert_eq!(expected.as_ref().map(|key| &key.2[..]), Some(&[98, 122, 133, 156][..]));
+        assert_eq!(key(lightest_row(&field, 4, &candidates)), expected);
     }
 
     #[test]
@@ -249,7 +365,29 @@ mod tests {
         let good = |row: &[u8]| row.iter().fold(1, |s, h| s ^ h) == 0 && is_good(&field, row);
         let expected = brute::lightest_row(&field, &candidates, 8, good);
         assert!(expected.is_some());
-        assert_eq!(pair(lightest_row(&field, 8, &candidates)), expected);
+        assert_eq!(key(lightest_row(&field, 8, &candidates)), expected);
+    }
+
+    /// Eight candidates have one count and one depth in every order. The best row over ten is the best of those over eight.
+    #[test]
+    fn order_eight_against_every_eight_of_ten_candidates() {
+        let briefs = [
+            (299, [3, 45, 72, 75, 76, 99, 113, 215, 233, 248]),
+            (355, [2, 45, 77, 88, 101, 129, 143, 167, 169, 186]),
+            (425, [6, 14, 24, 28, 52, 199, 216, 224, 240, 242]),
+        ];
+        for (polynomial, ten) in briefs {
+            let field = Field::new(polynomial);
+            let eights = (0..1usize << 10).filter(|set| set.count_ones() == 8);
+            let members =
+                |set: usize| (0..10).filter(|k| set >> k & 1 == 1).map(|k| ten[k]).collect::<Vec<u8>>();
+            let found = eights.filter_map(|set| lightest_row_of_any_depth(&field, 8, &members(set)));
+            let expected = found.map(|found| brute::key(&field, &found.row)).min();
+            assert_eq!(key(lightest_row(&field, 8, &ten)), expected);
+            let of_any_depth = lightest_row_of_any_depth(&field, 8, &ten).unwrap();
+            let (sum, depth, row) = brute::key(&field, &of_any_depth.row);
+            assert!(expected.is_some_and(|best| sum == best.0 && depth > best.1 && row < best.2));
+        }
     }
 
     #[test]

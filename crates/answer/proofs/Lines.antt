@@ -16,19 +16,20 @@ use Rattle.algebra.proofs.Involution.{and-left, and-right}
 use Rattle.refusal.specs.Refusals.{firstNumber, Answer, answer, unlessRefused, answerAfter}
 use Rattle.refusal.proofs.Faults.{after-left, after-number-is}
 use lib.Count.{ones, onesIn}
-use Rattle.field.specs.Polynomial.{_⊕_, _⊗_, digitsWithin, overDigits, degree, reduce, rem, product, onesInColumns, xorCount, someBelow, Irreducible, isIrreducible}
+use Rattle.field.specs.Polynomial.{_⊕_, _⊗_, digitsWithin, overDigits, degree, reduce, rem, product, onesInColumns, xorCount, someBelow, Irreducible, isIrreducible, firstBelow}
 use Rattle.field.proofs.Irreducibility.{irreducible-to}
 use Rattle.field.specs.Table.{polynomials, passing}
 use Rattle.field.specs.Faults.{isOutside, isTooLarge, polynomialFaults, inverseFaults}
 use Rattle.matrix.specs.Numbers.{elements}
 use Rattle.matrix.specs.Counts.{total, elementCount, additionCount, rowCount, matrixCount}
 use Rattle.matrix.specs.Answers.{checkOf, isWrongOrder, isWrongHalvedOrder, someWordTooLarge, someEntryTooLarge, determinantFaults, matrixFaults, halvedFaults}
-use Rattle.gates.specs.Gates.{bit, isInput, inputsOf, outputs, joining, gatesOf, carrierOf, gatesFrom, carriersFrom, gatesOfMatrix, carriersOfMatrix}
+use Rattle.matrix.specs.Depths.{bit, onesInLine, outputOnes, depthOf, greatest, lineDepth}
+use Rattle.gates.specs.Gates.{isInput, inputsOf, outputs, joining, gatesOf, carrierOf, gatesFrom, carriersFrom, gatesOfMatrix, carriersOfMatrix}
 use Rattle.gates.specs.Wires.{wires, carriedBit, evaluate}
 use Rattle.search.specs.Lightest.{member, Best, nothing, found}
 use Rattle.search.specs.Shape.{hadamardShape}
-use Rattle.search.specs.Answer.{isWrongSearchOrder, isWrongSearchCount, someTooLarge, someRepeated, someBad, sumOf, lightestRow, searchFaults}
-use Rattle.search.proofs.Executable.{over-nineteen}
+use Rattle.search.specs.Answer.{isWrongSearchOrder, isWrongSearchCount, someTooLarge, someRepeated, someBad, sumOf, depthOfRow, lightestRow, searchFaults}
+use Rattle.search.proofs.Executable.{over-nineteen, by-depth-rows}
 use Rattle.search.proofs.Rows.{not-passed}
 use Rattle.text.specs.Reading.{inForm}
 use Rattle.text.specs.Text.{columnByte, column, columns, lineText, lineEnd, valueText, requestText, answerText, SixDigits}
@@ -37,7 +38,7 @@ use Rattle.text.proofs.Form.{six-none, six-more}
 use Rattle.text.proofs.Requests.{ReadAs, written-read}
 use Rattle.answer.specs.Due.{request, rowLines, bestLines, search, checkFaults, entriesOf, checkLines, check, surveyFaults, surveyLine, surveyLines, survey, gateLines, gates, kinds, kindAmong, dueTo, kindIn, requestIn, faultsOf, due}
 use Rattle.answer.specs.Answered.{textOf}
-use Rattle.answer.specs.Reference.{ReferenceLine, texts, power, ReferenceSays, AllReferenceSay, all-none, _and_, elementLines, searches, checks, surveys, surveyTexts, gateLists, gateTexts, refusals, from-one, limits, bytesOf, example, referenceLines}
+use Rattle.answer.specs.Reference.{ReferenceLine, texts, power, ReferenceSays, AllReferenceSay, all-none, _and_, elementLines, searches, depthLines, checks, surveys, surveyTexts, gateLists, gateTexts, refusals, from-one, limits, bytesOf, example, referenceLines}
 
 -- ---- from the numbers of a request to its text
 
@@ -109,6 +110,22 @@ searches-hold =
     and (due-request 1 19 4 _ refl ∙ search-due 19 4 _ _ three)
     and (due-request 1 19 4 _ refl ∙ search-due 19 4 _ _ few)
     and (due-request 1 19 4 _ refl ∙ search-due 19 4 _ _ fifteen)
+    and all-none
+
+depths-hold : AllReferenceSay depthLines
+unfolding ReferenceSays depthLines fits allSix isOutside isIrreducible someBelow searchFaults polynomialFaults firstNumber isWrongSearchOrder isWrongSearchCount someTooLarge isTooLarge someBad someRepeated member sumOf rowLines rowCount elementCount additionCount total weight tabulate xorCount onesInColumns ones onesIn product rem reduce degree overDigits digitsWithin _⊗_ _⊕_ depthOf firstBelow depthOfRow lineDepth greatest outputOnes onesInLine bit
+depths-hold =
+    let (fifteen, eleven, six) = by-depth-rows in
+    refl
+    and refl
+    and refl
+    and refl
+    and refl
+    and (due-request 1 31 4 _ refl ∙ search-due 31 4 _ _ fifteen)
+    and (due-request 1 31 4 _ refl ∙ search-due 31 4 _ _ eleven)
+    and refl
+    and refl
+    and (due-request 1 67 4 _ refl ∙ search-due 67 4 _ _ six)
     and all-none
 
 example-holds : AllReferenceSay example
@@ -203,7 +220,7 @@ lines-hold =
     all-append
     (all-append
     (all-append
-    (all-append (all-append (all-append (all-append (all-append (all-append elements-hold searches-hold) checks-hold) surveys-hold) survey-texts-hold) gate-lists-hold) gate-texts-hold)
+    (all-append (all-append (all-append (all-append (all-append (all-append (all-append elements-hold searches-hold) depths-hold) checks-hold) surveys-hold) survey-texts-hold) gate-lists-hold) gate-texts-hold)
     refusals-hold)
     limits-hold)
     example-holds

@@ -1,5 +1,5 @@
 -- The reference lines of document 01 that are marked P, as one table, with the limits of its last point, its example of a search,
--- whole, the gate lists of request Two, surveys in the order of request Three, and lines that tell apart what the others cannot. Assumes nothing.
+-- whole, the gate lists of request Two, surveys in the order of request Three, the depths of request Four, and lines that tell apart what the others cannot. Assumes nothing.
 use mathlib.Core.Path.{_≡_}
 use mathlib.Core.Logic.{_≢_}
 use mathlib.Core.List.{List, [], _∷_, _++_, map, foldl}
@@ -8,10 +8,12 @@ use Prim.Native.Char.{code}
 use Prim.Native.String.{String, len, charAt}
 use lib.ListN.{replicate}
 use Rattle.algebra.specs.Matrix.{tabulate, det}
-use Rattle.field.specs.Polynomial.{_⊕_, product, xorCount}
+use Rattle.field.specs.Polynomial.{_⊕_, degree, product, xorCount}
 use Rattle.field.specs.Faults.{inverseFaults}
 use Rattle.matrix.specs.Numbers.{numbers}
 use Rattle.matrix.specs.Counts.{matrixCount}
+use Rattle.matrix.specs.Depths.{onesInLine, depthOf}
+use Rattle.search.specs.Answer.{depthOfRow}
 use Rattle.matrix.specs.Answers.{determinantFaults, matrixFaults, halvedFaults}
 use Rattle.gates.specs.Gates.{gatesOfMatrix, carriersOfMatrix}
 use Rattle.gates.specs.Wires.{evaluate}
@@ -33,6 +35,12 @@ pub data ReferenceLine : Type 0 where
   determinants : ℕ → ℕ → List ℕ → ℕ → ReferenceLine
   -- over the polynomial the matrix of this order with these entries has this XOR count
   matrix-counts : ℕ → ℕ → List ℕ → ℕ → ReferenceLine
+  -- over the polynomial this element has these ones for its output bits
+  output-ones : ℕ → ℕ → List ℕ → ReferenceLine
+  -- output bits with these numbers of ones have these depths
+  depths : List ℕ → List ℕ → ReferenceLine
+  -- over the polynomial the row of this order has this depth
+  row-depths : ℕ → ℕ → List ℕ → ℕ → ReferenceLine
   -- evaluating the gates of this matrix on these input bits gives these output bits
   evaluations : ℕ → ℕ → List ℕ → List ℕ → List ℕ → ReferenceLine
   -- to the request of this kind, polynomial, order and values this is due
@@ -61,6 +69,9 @@ ReferenceSays (powers p a k c) = power p a k ≡ c
 ReferenceSays (sums elements total) = foldl _⊕_ 0 elements ≡ total
 ReferenceSays (determinants p n entries c) = det (numbers p) n (entriesOf n entries) ≡ c
 ReferenceSays (matrix-counts p n entries c) = matrixCount p n (entriesOf n entries) ≡ c
+ReferenceSays (output-ones p a numbers) = tabulate (degree p) (onesInLine p a) ≡ numbers
+ReferenceSays (depths numbers results) = map depthOf numbers ≡ results
+ReferenceSays (row-depths p n row d) = depthOfRow p n row ≡ d
 ReferenceSays (evaluations p n entries bits result) = evaluate (gatesOfMatrix p n (entriesOf n entries)) (carriersOfMatrix p n (entriesOf n entries)) bits ≡ result
 ReferenceSays (requests kind polynomial order values d) = due (requestText kind polynomial order values) ≡ d
 ReferenceSays (not-given kind polynomial order values number) = due (requestText kind polynomial order values) .number ≢ number
@@ -99,6 +110,23 @@ searches =
     requests 1 19 4 (1 ∷ 3 ∷ 8 ∷ 11 ∷ []) (answer 9 []) ∷
     requests 1 19 4 (1 ∷ 4 ∷ 9 ∷ []) (answer 9 []) ∷
     requests 1 19 4 (1 ∷ 2 ∷ 3 ∷ 4 ∷ 5 ∷ 6 ∷ 7 ∷ 8 ∷ 9 ∷ 10 ∷ 11 ∷ 12 ∷ 13 ∷ 14 ∷ 15 ∷ []) (answer 0 ((0 ∷ 6 ∷ 18 ∷ 72 ∷ []) ∷ (1 ∷ 4 ∷ 9 ∷ 13 ∷ []) ∷ [])) ∷
+    []
+
+-- depths (document 02, Four): over 19 element 2, whose lines and columns differ; numbers of ones; rows; searches over 31, order 4, where the depth
+-- decides: all fifteen, of which 1 2 4 6 has the count of 1 2 13 15 and an earlier place, and eleven of them; one over 67 where the count decides
+-- before the depth: 1 8 16 24 is shallower and earlier, but heavier
+unfoldable pub depthLines : List ReferenceLine
+depthLines =
+    output-ones 19 2 (1 ∷ 2 ∷ 1 ∷ 1 ∷ []) ∷
+    depths (0 ∷ 1 ∷ 2 ∷ 3 ∷ 4 ∷ 5 ∷ 8 ∷ 9 ∷ 64 ∷ 65 ∷ []) (0 ∷ 0 ∷ 1 ∷ 2 ∷ 2 ∷ 3 ∷ 3 ∷ 4 ∷ 6 ∷ 7 ∷ []) ∷
+    row-depths 19 4 (1 ∷ 4 ∷ 9 ∷ 13 ∷ []) 3 ∷
+    row-depths 31 4 (1 ∷ 2 ∷ 4 ∷ 6 ∷ []) 4 ∷
+    row-depths 31 4 (1 ∷ 2 ∷ 13 ∷ 15 ∷ []) 3 ∷
+    requests 1 31 4 (1 ∷ 2 ∷ 3 ∷ 4 ∷ 5 ∷ 6 ∷ 7 ∷ 8 ∷ 9 ∷ 10 ∷ 11 ∷ 12 ∷ 13 ∷ 14 ∷ 15 ∷ []) (answer 0 ((0 ∷ 12 ∷ 24 ∷ 96 ∷ []) ∷ (1 ∷ 2 ∷ 13 ∷ 15 ∷ []) ∷ [])) ∷
+    requests 1 31 4 (1 ∷ 2 ∷ 3 ∷ 4 ∷ 6 ∷ 7 ∷ 8 ∷ 9 ∷ 10 ∷ 12 ∷ 14 ∷ []) (answer 0 ((0 ∷ 12 ∷ 24 ∷ 96 ∷ []) ∷ (1 ∷ 4 ∷ 8 ∷ 12 ∷ []) ∷ [])) ∷
+    row-depths 67 4 (1 ∷ 8 ∷ 49 ∷ 57 ∷ []) 4 ∷
+    row-depths 67 4 (1 ∷ 8 ∷ 16 ∷ 24 ∷ []) 3 ∷
+    requests 1 67 4 (1 ∷ 8 ∷ 16 ∷ 24 ∷ 49 ∷ 57 ∷ []) (answer 0 ((0 ∷ 12 ∷ 30 ∷ 120 ∷ []) ∷ (1 ∷ 8 ∷ 49 ∷ 57 ∷ []) ∷ [])) ∷
     []
 
 -- checks over 7: the identity of order 2, order 1 with entry 0, and a matrix that is not its own transpose
@@ -199,4 +227,4 @@ example =
 
 -- the table
 unfoldable pub referenceLines : List ReferenceLine
-referenceLines = elementLines ++ searches ++ checks ++ surveys ++ surveyTexts ++ gateLists ++ gateTexts ++ refusals ++ limits ++ example
+referenceLines = elementLines ++ searches ++ depthLines ++ checks ++ surveys ++ surveyTexts ++ gateLists ++ gateTexts ++ refusals ++ limits ++ example

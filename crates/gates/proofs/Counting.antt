@@ -19,10 +19,11 @@ use Rattle.field.specs.Polynomial.{Modulus, degree, product, xorCount}
 use Rattle.matrix.specs.Numbers.{numbers}
 use Rattle.matrix.specs.Counts.{elementCount, additionCount, rowCount, matrixCount}
 use Rattle.matrix.proofs.Tallies.{total-sum, total-rows, zero-line}
-use Rattle.gates.specs.Gates.{bit, isInput, inputsOf, outputs, joining, gatesOf, gatesFrom, gatesOfMatrix}
-use Rattle.gates.proofs.Bits.{at-bit}
+use Rattle.matrix.specs.Depths.{bit, onesInLine, outputOnes}
+use Rattle.gates.specs.Gates.{isInput, inputsOf, outputs, joining, gatesOf, gatesFrom, gatesOfMatrix}
+use Rattle.matrix.proofs.Bits.{at-bit}
 use Rattle.gates.proofs.Lists.{listSum, length-sum, tabulate-sum, passing-sum}
-use Rattle.gates.proofs.BitMatrix.{onesInLine, sum-none, lines-columns, line-positive, entry-ones}
+use Rattle.matrix.proofs.BitMatrix.{line-sum, sum-none, lines-columns, line-positive, entry-ones}
 
 -- ---- the gates of an output bit
 
@@ -79,6 +80,12 @@ inputs-count p n b line =
     ∙ sum-cong Naturals (n * degree p) _ (λ v. bit b (product p (line (v / degree p)) (2 ^ (v % degree p))))
     (λ v l. at-bit (λ d. cond (eqb d 1) 1 0 ≡ d) refl refl b (product p (line (v / degree p)) (2 ^ (v % degree p))))
     ∙ sum-flat Naturals naturals (degree p) n (λ j k. bit b (product p (line j) (2 ^ k)))
+    ∙ sum-cong Naturals n _ _ (λ j l. sym (line-sum p (line j) b))
+
+-- so the ones that decide on an output bit's depth are the inputs that its gates join
+pub inputs-ones : (p n b : ℕ) (line : ℕ → ℕ) → length (inputsOf p n line b) ≡ outputOnes p n line b
+unfolding outputOnes
+inputs-ones p n b line = inputs-count p n b line ∙ sym (total-sum n (λ j. onesInLine p (line j) b))
 
 -- ---- the gates of a line
 

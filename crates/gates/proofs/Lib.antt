@@ -1,7 +1,5 @@
 -- Laws of the definitions, for this crate's proofs and for the crates above.
-pub mod Bits
 pub mod Lists
-pub mod BitMatrix
 pub mod Counting
 pub mod Joined
 pub mod Evaluation

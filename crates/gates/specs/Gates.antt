@@ -8,10 +8,7 @@ use lib.ListN.{length}
 use Rattle.algebra.specs.Matrix.{tabulate}
 use Rattle.field.specs.Polynomial.{degree, product}
 use Rattle.field.specs.Table.{passing}
-
--- bit b of a number
-unfoldable pub bit : ℕ → ℕ → ℕ
-bit b a = a / 2 ^ b % 2
+use Rattle.matrix.specs.Depths.{bit}
 
 -- ---- inputs
 

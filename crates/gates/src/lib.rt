@@ -6,7 +6,8 @@ ghost use lib.Dec.{eqb};
 ghost use lib.ListN.{length, getD};
 ghost use Rattle.field.specs.Polynomial.{Modulus, degree, product};
 ghost use Rattle.matrix.specs.Numbers.{entry, InField, WordsInField};
-ghost use Rattle.gates.specs.Gates.{bit, inputsOf, carrierOf};
+ghost use Rattle.matrix.specs.Depths.{bit};
+ghost use Rattle.gates.specs.Gates.{inputsOf, carrierOf};
 ghost use Rattle.gates.specs.Steps.{asInputs};
 
 // What carries an output bit that is always 0.

@@ -14,7 +14,7 @@ use Rattle.algebra.proofs.Words.{stored-more, length-tabulate, getD-tabulate, t
 use Rattle.algebra.proofs.Sums.{le-or-lt}
 use Rattle.field.specs.Polynomial.{_⊕_}
 use Rattle.matrix.specs.Numbers.{numbers, entry}
-use Rattle.matrix.specs.Steps.Blocks.{filled, framed}
+use Rattle.matrix.specs.Steps.Blocks.{filledTo, filled, framed}
 
 -- ---- sums
 
@@ -38,13 +38,26 @@ xor-sum p row (suc n) l =
     ∙ sym (xor-more row n (foldl bitXor 0 (take n row)) l refl)
     ∙ ap (λ (x : ℕ). bitXor x (getD row n 0)) (xor-sum p row n (omega arith))
 
+-- ---- arrays
+
+module _ {A : Type 0} (size : ℕ) (z : A) (f : ℕ → A) where
+  -- the value at one of the first places
+  pub getD-filledTo : (n i : ℕ) → i < n → (d : A) → getD (filledTo size z f n) i d ≡ f i
+  getD-filledTo n i l d =
+      List·getD-append (tabulate n f) (replicate (size - n) z) d i (rw (length-tabulate n f) l) ∙ getD-tabulate n f i d l
+
+  -- the next place is filled
+  pub filledTo-more : (i : ℕ) (r : List A) (v : A) → i < size → r ≡ filledTo size z f i → v ≡ f i → set r i v ≡ filledTo size z f (i + 1)
+  filledTo-more i r v l e d = stored-more z size i (tabulate i f) (tabulate (i + 1) f) r v l (length-tabulate i f) (tabulate-add i 1 f ∙ last) e
+    where
+      last : tabulate i f ++ tabulate 1 (λ j. f (i + j)) ≡ tabulate i f ++ (v ∷ [])
+      last = unfold tabulate in (rw (d, add-zero) refl)
+
 -- ---- arrays of eight
 
 module _ {A : Type 0} (z : A) (f : ℕ → A) where
-  -- the value at one of the first places
   pub getD-filled : (n i : ℕ) → i < n → (d : A) → getD (filled z f n) i d ≡ f i
-  getD-filled n i l d =
-      List·getD-append (tabulate n f) (replicate (8 - n) z) d i (rw (length-tabulate n f) l) ∙ getD-tabulate n f i d l
+  getD-filled = getD-filledTo 8 z f
 
   -- and behind them
   pub getD-behind : (n i : ℕ) → n ≤ i → i < 8 → (d : A) → getD (filled z f n) i d ≡ z
@@ -66,12 +79,8 @@ module _ {A : Type 0} (z : A) (f : ℕ → A) where
       ⊎-elim (λ (m : n ≤ i). behind i m (omega arith) ∙ sym (getD-behind n i m (omega arith) d))
       (λ (m : i < n). first i m ∙ sym (getD-filled n i m d)) (le-or-lt n i))
 
-  -- the next place is filled
   pub filled-more : (i : ℕ) (r : List A) (v : A) → i < 8 → r ≡ filled z f i → v ≡ f i → set r i v ≡ filled z f (i + 1)
-  filled-more i r v l e d = stored-more z 8 i (tabulate i f) (tabulate (i + 1) f) r v l (length-tabulate i f) (tabulate-add i 1 f ∙ last) e
-    where
-      last : tabulate i f ++ tabulate 1 (λ j. f (i + j)) ≡ tabulate i f ++ (v ∷ [])
-      last = unfold tabulate in (rw (d, add-zero) refl)
+  filled-more = filledTo-more 8 z f
 
 -- ---- blocks
 

@@ -13,6 +13,10 @@ pub mod Masks
 pub mod Regularity
 pub mod CallFaults
 pub mod Tallies
+pub mod Bits
+pub mod BitMatrix
+pub mod Depths
+pub mod Figures
 pub mod CountsBefore
 pub mod Elimination
 pub mod Trials

@@ -1,5 +1,5 @@
 -- Hadamard matrices over the numbers below 2^m: involution, MDS, and rows with their places moved: an affine change of the places keeps
--- branch number, involution and counts (`affine-row`). Assumes nothing.
+-- branch number, involution, counts and depth (`affine-row`). Assumes nothing.
 use mathlib.Core.Path.{_≡_, sym, ap, _∙_}
 use mathlib.Core.Bool.{true, false}
 use mathlib.Core.List.{List}
@@ -21,8 +21,10 @@ use Rattle.algebra.proofs.Bridge.{sum-bridge}
 use Rattle.field.specs.Polynomial.{Modulus}
 use Rattle.matrix.specs.Numbers.{numbers, elements, WordsInField}
 use Rattle.matrix.specs.Counts.{rowCount, matrixCount}
+use Rattle.matrix.specs.Depths.{lineDepth}
 use Rattle.matrix.specs.Steps.Regular.{regularBetween}
 use Rattle.matrix.proofs.Tallies.{count-moved, hadamard-count}
+use Rattle.matrix.proofs.Depths.{depth-moved}
 use Rattle.matrix.proofs.Translates as Translates
 use Rattle.matrix.proofs.Residues.{Residue, number, lift, lift-number, same-number, residueList as all, residues-complete as complete, residues, number-keeps, residues-field}
 use Rattle.matrix.proofs.Residues.{branch-carried, mds-carried, involution-carried, regular-carried}
@@ -145,11 +147,18 @@ module _ (p : ℕ) (h : Modulus p) (k : ℕ) where
     moved-matrix-count =
         hadamard-count p k (moved (numbers p) (2 ^ k) σ row) ∙ ap (λ (c : ℕ). 2 ^ k * c) (count-moved p (2 ^ k) σ ρ (a .inverse) row) ∙ sym (hadamard-count p k row)
 
-    -- an affine change of the places keeps branch number, involution, row count and matrix count
+    -- an affine change of the places keeps branch number, involution, row count, matrix count and depth
     pub affine-row : (branchNumber (numbers p) (elements p) (2 ^ k) (hadamard (numbers p) (moved (numbers p) (2 ^ k) σ row))
         ≡ branchNumber (numbers p) (elements p) (2 ^ k) (hadamard (numbers p) row))
         × (isInvolution (numbers p) (elements p) (2 ^ k) (hadamard (numbers p) (moved (numbers p) (2 ^ k) σ row))
         ≡ isInvolution (numbers p) (elements p) (2 ^ k) (hadamard (numbers p) row))
         × (rowCount p (2 ^ k) (λ j. getD (moved (numbers p) (2 ^ k) σ row) j 0) ≡ rowCount p (2 ^ k) (λ j. getD row j 0))
         × (matrixCount p (2 ^ k) (hadamard (numbers p) (moved (numbers p) (2 ^ k) σ row)) ≡ matrixCount p (2 ^ k) (hadamard (numbers p) row))
-    affine-row = (moved-row-branch, moved-row-involution, count-moved p (2 ^ k) σ ρ (a .inverse) row, moved-matrix-count)
+        × (lineDepth p (2 ^ k) (λ j. getD (moved (numbers p) (2 ^ k) σ row) j 0) ≡ lineDepth p (2 ^ k) (λ j. getD row j 0))
+    affine-row = (
+      moved-row-branch,
+      moved-row-involution,
+      count-moved p (2 ^ k) σ ρ (a .inverse) row,
+      moved-matrix-count,
+      depth-moved p (2 ^ k) σ ρ (a .inverse) row,
+    )

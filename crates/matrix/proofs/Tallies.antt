@@ -117,12 +117,15 @@ pub rowCount-cong : (p n : ℕ) (row row′ : ℕ → ℕ) → ((j : ℕ) → j 
 unfolding rowCount
 rowCount-cong p n row row′ e = ap₂ _+_ (elementCount-cong p n row row′ e) (additionCount-cong p n row row′ e)
 
+-- a sum is the same with its terms in another order
+pub total-permuted : (n : ℕ) (σ ρ : ℕ → ℕ) → Inverse n σ ρ → (f : ℕ → ℕ) → total n (λ j. f (σ j)) ≡ total n f
+total-permuted n σ ρ v f = total-sum n _ ∙ sum-permuted Naturals naturals n σ ρ v f ∙ sym (total-sum n f)
+
 module _ (p n : ℕ) (σ ρ : ℕ → ℕ) (v : Inverse n σ ρ) where
   -- a row counts the same with its elements in another order
   pub elementCount-permuted : (row : ℕ → ℕ) → elementCount p n (λ j. row (σ j)) ≡ elementCount p n row
   unfolding elementCount
-  elementCount-permuted row =
-      total-sum n _ ∙ sum-permuted Naturals naturals n σ ρ v (λ j. xorCount p (row j)) ∙ sym (total-sum n (λ j. xorCount p (row j)))
+  elementCount-permuted row = total-permuted n σ ρ v (λ j. xorCount p (row j))
 
   weight-permuted : (row : ℕ → ℕ) → weight (numbers p) (tabulate n (λ j. row (σ j))) ≡ weight (numbers p) (tabulate n row)
   weight-permuted row =
@@ -135,7 +138,7 @@ module _ (p n : ℕ) (σ ρ : ℕ → ℕ) (v : Inverse n σ ρ) where
   rowCount-permuted row = ap₂ (λ (s w : ℕ). s + (w - 1) * degree p) (elementCount-permuted row) (weight-permuted row)
 
   module _ (row : List ℕ) where
-    moved-at : (j : ℕ) → j < n → getD (moved (numbers p) n σ row) j 0 ≡ getD row (σ j) 0
+    pub moved-at : (j : ℕ) → j < n → getD (moved (numbers p) n σ row) j 0 ≡ getD row (σ j) 0
     moved-at j l = getD-tabulate n (λ i. getD row (σ i) 0) j 0 l
 
     -- the same of a list

@@ -5,3 +5,4 @@ pub mod Pairs
 pub mod Identity
 pub mod Regular
 pub mod Calls
+pub mod Figures

@@ -4,5 +4,6 @@ pub mod block;
 pub mod branch;
 pub mod call;
 pub mod count;
+pub mod figure;
 pub mod involution;
 pub mod multiply;

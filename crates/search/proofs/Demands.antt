@@ -1,10 +1,10 @@
 -- Demand 3, whole. `demand-three`: a row that is answered is over the brief's elements, its matrix is an involution with branch
--- number order plus one, and every other row over these elements with both properties has a larger XOR count, or the same count
--- and a later place. `demand-three-none`: nothing is answered exactly if no row over these elements has both properties.
+-- number order plus one, and every other row over these elements with both properties has a larger XOR count; or the same count and a greater
+-- depth; or both the same and a later place. `demand-three-none`: nothing is answered exactly if no row over these elements has both properties.
 -- `demand-three-only`: no other row is demanded. `order-of-candidates`: the order of the brief's elements does not matter.
 -- They are the theorems `shape-row`, `shape-none`, `shape-only` of any shape, at Hadamard matrices. What compares counts takes a shape by which
 -- every entry of the row stands in its matrix: then no entry is 0, and rows compare by the sums of their element counts. Assumes nothing.
-use mathlib.Core.Path.{_≡_, refl, sym, ap, _∙_}
+use mathlib.Core.Path.{_≡_, refl, sym, ap, ap₂, _∙_}
 use mathlib.Core.Logic.{_≢_, _↔_, _⊎_, inl, inr, ⊎-elim}
 use mathlib.Core.Bool.{Bool, true, false, not, _||_, true≢false, false≢true}
 use mathlib.Core.List.{List, List·Memᴰ}
@@ -23,8 +23,9 @@ use Rattle.matrix.proofs.Tallies.{full-line}
 use Rattle.matrix.proofs.Theorems.{zero-entry-light}
 use Rattle.search.specs.Lightest.{Earlier, nothing, found, rowsOver}
 use Rattle.search.specs.Shape.{Shape, rowMatrix, isGood, hadamardShape}
-use Rattle.search.specs.Answer.{keyOf, lightestRow}
-use Rattle.search.specs.Demands.{countOfRow, Before, FirstOf, Both, Demanded}
+use Rattle.search.specs.Answer.{sumOf, keyOf, lightestRow}
+use Rattle.search.specs.Demands.{countOfRow, Before, by-count, by-depth, by-place, FirstOf, Both, Demanded}
+use Rattle.search.proofs.Keys.{key-lt, key-split, key-same}
 use Rattle.search.proofs.Rows.{mem-rows, sorted-rows, getD-mem, not-passed}
 use Rattle.search.proofs.Lightest.{none-sorted, row-sorted, unique-sorted, same-answer}
 
@@ -42,21 +43,31 @@ pub record Suited (shape : Shape) (p n : ℕ) (candidates row : List ℕ) : Type
 abbrev pub NoZero : ℕ → List ℕ → Type 0
 NoZero n row = (j : ℕ) → j < n → getD row j 0 ≢ 0
 
--- the count of a row without zeros is the key and a number that only the order and the polynomial decide
-pub count-key : (p n : ℕ) (row : List ℕ) → NoZero n row → countOfRow p n row ≡ keyOf p n row + (n - 1) * degree p
-unfolding keyOf
-count-key p n row h = full-line p n (λ j. getD row j 0) h
+-- the count of a row without zeros is its sum and a number that only the order and the polynomial decide
+pub count-sum : (p n : ℕ) (row : List ℕ) → NoZero n row → countOfRow p n row ≡ sumOf p n row + (n - 1) * degree p
+unfolding sumOf
+count-sum p n row h = full-line p n (λ j. getD row j 0) h
 
--- the order of keys is that of counts
-pub key-before : (p n : ℕ) (r s : List ℕ) → NoZero n r → NoZero n s → (keyOf p n r < keyOf p n s) ⊎ ((keyOf p n r ≡ keyOf p n s) × Earlier r s) → Before p n r s
-key-before p n r s x y h =
-    ⊎-elim (λ (l : keyOf p n r < keyOf p n s). inl (omega (arith, count-key p n r x, count-key p n s y)))
-    (λ q. inr (omega (arith, q .0, count-key p n r x, count-key p n s y), q .1)) h
+-- the order of keys is that of counts, then of depths
+module _ (p n : ℕ) (r s : List ℕ) (x : NoZero n r) (y : NoZero n s) where
+  same-count : sumOf p n r ≡ sumOf p n s → countOfRow p n r ≡ countOfRow p n s
+  same-count e = omega (arith, count-sum p n r x, count-sum p n s y)
 
-pub before-key : (p n : ℕ) (r s : List ℕ) → NoZero n r → NoZero n s → Before p n r s → (keyOf p n r < keyOf p n s) ⊎ ((keyOf p n r ≡ keyOf p n s) × Earlier r s)
-before-key p n r s x y h =
-    ⊎-elim (λ (l : countOfRow p n r < countOfRow p n s). inl (omega (arith, count-key p n r x, count-key p n s y)))
-    (λ q. inr (omega (arith, q .0, count-key p n r x, count-key p n s y), q .1)) h
+  same-sum : countOfRow p n r ≡ countOfRow p n s → sumOf p n r ≡ sumOf p n s
+  same-sum e = omega (arith, count-sum p n r x, count-sum p n s y)
+
+  pub key-before : (keyOf p n r < keyOf p n s) ⊎ ((keyOf p n r ≡ keyOf p n s) × Earlier r s) → Before p n r s
+  key-before h =
+      ⊎-elim
+      (λ l.
+      ⊎-elim (λ (m : sumOf p n r < sumOf p n s). by-count (omega (arith, count-sum p n r x, count-sum p n s y)))
+      (λ q. by-depth (same-count (q .0)) (q .1)) (key-split p n r s l))
+      (λ q. let (e, f) = key-same p n r s (q .0) in by-place (same-count e) f (q .1)) h
+
+  pub before-key : Before p n r s → (keyOf p n r < keyOf p n s) ⊎ ((keyOf p n r ≡ keyOf p n s) × Earlier r s)
+  before-key (by-count l) = inl (key-lt p n r s (inl (omega (arith, count-sum p n r x, count-sum p n s y))))
+  before-key (by-depth e l) = inl (key-lt p n r s (inr (same-sum e, l)))
+  before-key (by-place e f h) = inr (unfold keyOf in ap₂ (λ (t d : ℕ). t * suc (degree p * n) + d) (same-sum e) f, h)
 
 -- ---- any shape
 

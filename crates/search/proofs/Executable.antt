@@ -13,19 +13,20 @@ use borrow.Author.Tests.{eqb-true, eq-eqb, ltb-true, lt-ltb}
 use Rattle.algebra.specs.Matrix.{tabulate, upTo, sum, hadamard, skip, without, det, placesFrom, chosen, block}
 use Rattle.algebra.proofs.Involution.{and-left, and-right}
 use Rattle.algebra.proofs.Symmetry.{same-bool}
-use Rattle.field.specs.Polynomial.{_⊕_, _⊗_, digitsWithin, overDigits, degree, reduce, rem, product, onesInColumns, xorCount, Modulus}
+use Rattle.field.specs.Polynomial.{_⊕_, _⊗_, digitsWithin, overDigits, degree, reduce, rem, product, onesInColumns, xorCount, Modulus, firstBelow}
 use lib.Count.{ones, onesIn}
 use Rattle.field.specs.Table.{table}
 use Rattle.field.proofs.Completeness.{table-sound}
 use Rattle.matrix.specs.Numbers.{numbers, WordsInField}
 use Rattle.matrix.specs.Counts.{elementCount, total}
+use Rattle.matrix.specs.Depths.{bit, onesInLine, outputOnes, depthOf, greatest, lineDepth}
 use Rattle.field.specs.Steps.{everyBelow}
 use Rattle.matrix.specs.Steps.Choice.{translated, isLeast, isLookedAt}
 use Rattle.matrix.specs.Steps.Regular.{isRegularBlock, regularOfSize, regularBetween}
 use Rattle.search.specs.Lightest.{member, among, ascending, rowsOver, Earlier, differs, agrees, Best, nothing, found, lighter, keep, keepAll, lightest}
 use Rattle.search.specs.Steps.IndexMaps.{canonical}
 use Rattle.search.specs.Shape.{isGood, hadamardShape}
-use Rattle.search.specs.Answer.{keyOf, lightestRow}
+use Rattle.search.specs.Answer.{sumOf, depthOfRow, keyOf, lightestRow}
 use Rattle.search.proofs.Rows.{Sorted, end, then, earlier-cast, sorted-append, sorted-map, getD-mem, mem-words, sorted-ascending, sorted-rows}
 use Rattle.search.proofs.Lightest.{same-lightest}
 use Rattle.search.proofs.Walk.{same-good}
@@ -220,8 +221,16 @@ pub nineteen : Modulus 19
 unfolding table
 nineteen = record { low = omega arith; high = omega arith; irreducible = table-sound 3 (omega arith) }
 
-by-computing : (candidates : List ℕ) (best : Best) → computed 19 candidates ≡ best → lightestRow hadamardShape 19 4 candidates ≡ best
-by-computing candidates best e = lightest-computed 19 nineteen candidates ∙ e
+pub thirty-one : Modulus 31
+unfolding table
+thirty-one = record { low = omega arith; high = omega arith; irreducible = table-sound 5 (omega arith) }
+
+pub sixty-seven : Modulus 67
+unfolding table
+sixty-seven = record { low = omega arith; high = omega arith; irreducible = table-sound 12 (omega arith) }
+
+by-computing : {p : ℕ} → Modulus p → (candidates : List ℕ) (best : Best) → computed p candidates ≡ best → lightestRow hadamardShape p 4 candidates ≡ best
+by-computing {p} h candidates best e = lightest-computed p h candidates ∙ e
 
 -- no row over 1 2 4 8, over 1 3 8 11 and over 1 4 9; the row 1 4 9 13 over these four and over all fifteen
 pub over-nineteen : (lightestRow hadamardShape 19 4 (1 ∷ 2 ∷ 4 ∷ 8 ∷ []) ≡ nothing)
@@ -229,5 +238,18 @@ pub over-nineteen : (lightestRow hadamardShape 19 4 (1 ∷ 2 ∷ 4 ∷ 8 ∷ [])
     × (lightestRow hadamardShape 19 4 (1 ∷ 4 ∷ 9 ∷ []) ≡ nothing)
     × (lightestRow hadamardShape 19 4 (1 ∷ 4 ∷ 9 ∷ 13 ∷ []) ≡ found (1 ∷ 4 ∷ 9 ∷ 13 ∷ []))
     × (lightestRow hadamardShape 19 4 (1 ∷ 2 ∷ 3 ∷ 4 ∷ 5 ∷ 6 ∷ 7 ∷ 8 ∷ 9 ∷ 10 ∷ 11 ∷ 12 ∷ 13 ∷ 14 ∷ 15 ∷ []) ≡ found (1 ∷ 4 ∷ 9 ∷ 13 ∷ []))
-unfolding computed tryAll tryRow picks ascending upTo among member tabulate lighter keyOf elementCount total sum hadamard regularBetween regularOfSize isLookedAt isLeast translated isRegularBlock everyBelow det without skip block chosen placesFrom xorCount onesInColumns ones onesIn product rem reduce degree overDigits digitsWithin _⊗_ _⊕_
-over-nineteen = (by-computing _ _ refl, by-computing _ _ refl, by-computing _ _ refl, by-computing _ _ refl, by-computing _ _ refl)
+unfolding computed tryAll tryRow picks ascending upTo among member tabulate lighter keyOf sumOf depthOfRow elementCount lineDepth greatest depthOf firstBelow outputOnes onesInLine bit total sum hadamard regularBetween regularOfSize isLookedAt isLeast translated isRegularBlock everyBelow det without skip block chosen placesFrom xorCount onesInColumns ones onesIn product rem reduce degree overDigits digitsWithin _⊗_ _⊕_
+over-nineteen = (
+  by-computing nineteen _ _ refl,
+  by-computing nineteen _ _ refl,
+  by-computing nineteen _ _ refl,
+  by-computing nineteen _ _ refl,
+  by-computing nineteen _ _ refl,
+)
+
+-- where the depth decides: all fifteen over 31, and eleven of them; and where the count decides before it: six over 67
+pub by-depth-rows : (lightestRow hadamardShape 31 4 (1 ∷ 2 ∷ 3 ∷ 4 ∷ 5 ∷ 6 ∷ 7 ∷ 8 ∷ 9 ∷ 10 ∷ 11 ∷ 12 ∷ 13 ∷ 14 ∷ 15 ∷ []) ≡ found (1 ∷ 2 ∷ 13 ∷ 15 ∷ []))
+    × (lightestRow hadamardShape 31 4 (1 ∷ 2 ∷ 3 ∷ 4 ∷ 6 ∷ 7 ∷ 8 ∷ 9 ∷ 10 ∷ 12 ∷ 14 ∷ []) ≡ found (1 ∷ 4 ∷ 8 ∷ 12 ∷ []))
+    × (lightestRow hadamardShape 67 4 (1 ∷ 8 ∷ 16 ∷ 24 ∷ 49 ∷ 57 ∷ []) ≡ found (1 ∷ 8 ∷ 49 ∷ 57 ∷ []))
+unfolding computed tryAll tryRow picks ascending upTo among member tabulate lighter keyOf sumOf depthOfRow elementCount lineDepth greatest depthOf firstBelow outputOnes onesInLine bit total sum hadamard regularBetween regularOfSize isLookedAt isLeast translated isRegularBlock everyBelow det without skip block chosen placesFrom xorCount onesInColumns ones onesIn product rem reduce degree overDigits digitsWithin _⊗_ _⊕_
+by-depth-rows = (by-computing thirty-one _ _ refl, by-computing thirty-one _ _ refl, by-computing sixty-seven _ _ refl)

@@ -5,7 +5,7 @@ use mathlib.Core.Path.{_≡_, refl, sym, ap, ap₂, subst, _∙_}
 use mathlib.Core.Logic.{⊎-elim}
 use mathlib.Core.Bool.{Bool, true, false, _&&_, true≢false}
 use mathlib.Core.List.{List, List·Memᴰ}
-use Prim.Native.Nat.{ℕ, _-_, _/_, _^_, _≤_, _<_}
+use Prim.Native.Nat.{ℕ, suc, _+_, _-_, _*_, _/_, _^_, _≤_, _<_}
 use native.Mathlib.Omega.{arith}
 use lib.Dec.{eqb}
 use lib.ListN.{length, getD}
@@ -20,10 +20,11 @@ use Rattle.matrix.proofs.Residues.{lift, lift-number, regular-carried}
 use Rattle.matrix.proofs.Rows.{involution-row-sum, row-sum-involution, equal-entries-not-mds, half-is-enough, moved-row-mds, moved-row-involution}
 use Rattle.matrix.proofs.Planes.{nonzero-entry}
 use Rattle.matrix.proofs.Tallies.{elementCount-moved}
+use Rattle.matrix.proofs.Depths.{depth-moved}
 use Rattle.search.specs.Lightest.{ascending, lightest, rowsOver}
 use Rattle.search.specs.Steps.IndexMaps.{Move, from, moves, moved, canonical}
 use Rattle.search.specs.Shape.{rowMatrix, isGood, hadamardShape}
-use Rattle.search.specs.Answer.{keyOf, lightestRow}
+use Rattle.search.specs.Answer.{sumOf, depthOfRow, keyOf, lightestRow}
 use Rattle.search.specs.Steps.Hadamard.{SearchOrder}
 use Rattle.search.proofs.Rows.{getD-mem, mem-words, mem-ascending, sorted-ascending}
 use Rattle.search.proofs.IndexMaps.{moves-sound, moves-inverse, canonical-rows}
@@ -131,10 +132,20 @@ regular-same p n h f g below same least above most =
 
 -- ---- the key
 
--- a move keeps it, as any permutation of the places does
-pub key-moved : (p n : ℕ) (m : Move) → List·Memᴰ m (moves n) → (row : List ℕ) → keyOf p n (moved n m row) ≡ keyOf p n row
-unfolding keyOf moved
-key-moved p n m i row = elementCount-moved p n (from m) (from m) (moves-inverse n m i) row
+module _ (p n : ℕ) (m : Move) (i : List·Memᴰ m (moves n)) (row : List ℕ) where
+  -- a move keeps the sum and the depth, as any permutation of the places does
+  pub sum-kept : sumOf p n (moved n m row) ≡ sumOf p n row
+  unfolding sumOf moved
+  sum-kept = elementCount-moved p n (from m) (from m) (moves-inverse n m i) row
+
+  pub depth-kept : depthOfRow p n (moved n m row) ≡ depthOfRow p n row
+  unfolding depthOfRow moved
+  depth-kept = depth-moved p n (from m) (from m) (moves-inverse n m i) row
+
+  -- and so the key
+  pub key-moved : keyOf p n (moved n m row) ≡ keyOf p n row
+  unfolding keyOf
+  key-moved = ap₂ (λ (s d : ℕ). s * suc (degree p * n) + d) sum-kept depth-kept
 
 -- ---- the canonical rows
 

@@ -1,6 +1,7 @@
 -- The theory of the search, and the laws that its code is proved by.
 pub mod Rows
 pub mod Lightest
+pub mod Keys
 pub mod Demands
 pub mod Walk
 pub mod Pruning
@@ -14,4 +15,5 @@ pub mod Prefixes
 pub mod Start
 pub mod Refusals
 pub mod FewCandidates
+pub mod RowsBefore
 pub mod Limits

@@ -6,9 +6,9 @@ use mathlib.Core.Logic.{⊎-elim}
 use mathlib.Core.Bool.{Bool, true, false, true≢false}
 use mathlib.Core.List.{List, [], _∷_, _++_, List·Memᴰ, List·Memᴰ·head, List·Memᴰ·tail, List·Memᴰ·not-nil, List·Memᴰ·cases-cons, List·Memᴰ·append-cases, List·Memᴰ·eq-of-singleton, Memᴰ·cast}
 use Prim.Native.Nat.{ℕ, zero, suc, _+_, _-_, _*_, _≤_, _<_}
-use native.Mathlib.Nat.{le-refl, le-trans, mul-suc, mul-zero, add-zero, add-suc}
+use native.Mathlib.Nat.{le-refl, mul-suc, mul-zero, add-zero, add-suc}
 use native.Mathlib.Omega.{arith}
-use lib.ListN.{length, getD, take, length-append}
+use lib.ListN.{length, getD, take, length-append, List·getD-append}
 use lib.Seq.{append-snoc, take-append-seam, take-take, getD-append-seam, getD-take}
 use borrow.Author.Tests.{le-ltb}
 use Rattle.algebra.proofs.Involution.{and-left, and-right}
@@ -16,14 +16,17 @@ use Rattle.field.specs.Polynomial.{xorCount}
 use Rattle.matrix.specs.Counts.{total, elementCount}
 use Rattle.field.specs.Steps.{everyBelow}
 use Rattle.matrix.proofs.Squares.{every-each}
-use Rattle.matrix.proofs.Tallies.{total-cong}
+use Rattle.matrix.specs.Depths.{lineDepth}
+use Rattle.matrix.proofs.Tallies.{elementCount-cong}
+use Rattle.matrix.proofs.Depths.{lineDepth-cong, depth-front}
 use Rattle.search.specs.Lightest.{Best, found, lighter, keep, keepAll, member}
 use Rattle.search.specs.Shape.{isGood}
-use Rattle.search.specs.Answer.{keyOf}
+use Rattle.search.specs.Answer.{sumOf, depthOfRow, keyOf}
 use Rattle.search.specs.Steps.Walk.{completions}
 use Rattle.search.specs.Steps.Prefix.{Cuts, passes, AllStand, tried}
 use Rattle.search.proofs.Rows.{mem-words, member-mem, getD-mem, not-passed}
 use Rattle.search.proofs.Lightest.{keep-cases}
+use Rattle.search.proofs.Keys.{LessOrSame, pair-more, key-le}
 use Rattle.search.proofs.Walk.{mem-completions, extend-none, skip, skip-none, skip-heavy}
 
 -- ---- one row that may be good
@@ -64,17 +67,17 @@ module _ (good : List ℕ → Bool) (key : List ℕ → ℕ) where
 
 -- ---- sums
 
--- one number more
-pub total-suc : (n : ℕ) (f : ℕ → ℕ) → total (suc n) f ≡ total n f + f n
-unfolding total
-total-suc n f = refl
-
 -- each of k further numbers adds at least the least
 total-least : (f : ℕ → ℕ) (least d k : ℕ) → ((j : ℕ) → d ≤ j → j < d + k → least ≤ f j) → total d f + least * k ≤ total (d + k) f
 unfolding total
 total-least f least d zero h = rw (mul-zero, add-zero d) (omega arith)
 total-least f least d (suc k) h =
     rw (add-suc, mul-suc) (omega (arith, total-least f least d k (λ j a b. h j a (omega arith)), h (d + k) (omega arith) (omega arith)))
+
+element-least : (p least : ℕ) (row : ℕ → ℕ) (d k : ℕ) → ((j : ℕ) → d ≤ j → j < d + k → least ≤ xorCount p (row j))
+    → elementCount p d row + least * k ≤ elementCount p (d + k) row
+unfolding elementCount
+element-least p least row d k h = total-least (λ j. xorCount p (row j)) least d k h
 
 -- ---- a row that is tried
 
@@ -121,26 +124,37 @@ module _ (cuts : Cuts) (p n : ℕ) (letters q : List ℕ) (a k : ℕ) (over : (b
       let (long, front, here, in-letters) = row-of r i in
       not-passed (tried cuts p n r) (λ t. true≢false (sym (tried-stands cuts p n r t (length q) (omega arith)) ∙ ap₂ (cuts .mayStand) front here ∙ e))
 
+  -- the entries of the prefix and the letter, which every row behind them begins with
+  front-at : (r : List ℕ) → List·Memᴰ r (completions letters (q ++ a ∷ []) k) → (j : ℕ) → j < length q + 1 → getD (q ++ a ∷ []) j 0 ≡ getD r j 0
+  front-at r i j l =
+      let (w, m, e) = mem-completions letters (q ++ a ∷ []) k r .0 i in
+      sym (ap (λ x. getD x j 0) e ∙ List·getD-append (q ++ a ∷ []) w 0 j (omega (arith, length-append q (a ∷ []))))
+
   -- what every row behind it counts at least
   heavy-row : (least : ℕ) → ((b : ℕ) → List·Memᴰ b letters → least ≤ xorCount p b) → (r : List ℕ) → List·Memᴰ r (completions letters (q ++ a ∷ []) k)
-      → elementCount p (length q) (λ j. getD q j 0) + xorCount p a + least * k ≤ keyOf p n r
-  unfolding keyOf elementCount
+      → elementCount p (length q + 1) (λ j. getD (q ++ a ∷ []) j 0) + least * k ≤ sumOf p n r
+  unfolding sumOf
   heavy-row least low r i =
       let (long, front, here, in-letters) = row-of r i in
-      let f : ℕ → ℕ = λ j. xorCount p (getD r j 0) in
-      let first : total (length q) (λ j. xorCount p (getD q j 0)) ≡ total (length q) f = total-cong (length q) _ f (λ j l. ap (xorCount p) (ap (λ x. getD x j 0) (sym front) ∙ getD-take (length q) r j 0 l)) in
-      let all : total (suc (length q)) f + least * k ≤ total (suc (length q) + k) f = total-least f least (suc (length q)) k (λ j u v. low (getD r j 0) (in-letters (getD r j 0) (getD-mem r j 0 (omega arith)))) in
-      let two : total (suc (length q)) f ≡ total (length q) f + f (length q) = total-suc (length q) f in
-      let end : total (suc (length q) + k) f ≡ total n f = ap (λ m. total m f) (omega arith) in
-      let own : f (length q) ≡ xorCount p a = ap (xorCount p) here in
+      let first = elementCount-cong p (length q + 1) _ (λ j. getD r j 0) (front-at r i) in
+      let all = element-least p least (λ j. getD r j 0) (length q + 1) k (λ j u v. low (getD r j 0) (in-letters (getD r j 0) (getD-mem r j 0 (omega arith)))) in
+      let end = ap (λ (m : ℕ). elementCount p m (λ j. getD r j 0)) whole in
       omega arith
 
-  -- it is too heavy: no row behind it is lighter than the row kept
+  -- and how deep it is at least
+  deep-row : (r : List ℕ) → List·Memᴰ r (completions letters (q ++ a ∷ []) k)
+      → lineDepth p (length q + 1) (λ j. getD (q ++ a ∷ []) j 0) ≤ depthOfRow p n r
+  unfolding depthOfRow
+  deep-row r i =
+      let front = depth-front p (length q + 1) n (λ j. getD r j 0) (omega arith) in
+      omega (arith, lineDepth-cong p (length q + 1) _ (λ j. getD r j 0) (front-at r i))
+
+  -- every row behind it is heavier than the row kept, or as heavy and not shallower
   pub skip-bound : (best : Best) (b : List ℕ) (least : ℕ) → ((b : ℕ) → List·Memᴰ b letters → least ≤ xorCount p b) → best ≡ found b
-      → keyOf p n b ≤ elementCount p (length q) (λ j. getD q j 0) + xorCount p a + least * k
+      → LessOrSame (sumOf p n b) (depthOfRow p n b) (elementCount p (length q + 1) (λ j. getD (q ++ a ∷ []) j 0) + least * k) (lineDepth p (length q + 1) (λ j. getD (q ++ a ∷ []) j 0))
       → keepAll (tried cuts p n) (keyOf p n) best (completions letters (q ++ a ∷ []) k) ≡ best
   skip-bound best b least low e l =
-      skip (tried cuts p n) (keyOf p n) best _ λ r i g. (b, e, le-trans l (heavy-row least low r i))
+      skip (tried cuts p n) (keyOf p n) best _ λ r i g. (b, e, key-le p n b r (pair-more l (heavy-row least low r i) (deep-row r i)))
 
 -- ---- the last letter
 

@@ -31,7 +31,7 @@ use Rattle.search.proofs.Prefixes.{Long}
 
 -- nothing kept yet
 abbrev none : Kept
-none = record { found = false; row = replicate 8 0; key = 0 }
+none = record { found = false; row = replicate 8 0; count = 0; depth = 0 }
 
 -- the places behind the row
 zeros : (n : ℕ) → n ≤ 8 → drop n (replicate {A = ℕ} 8 0) ≡ replicate (8 - n) 0

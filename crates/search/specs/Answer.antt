@@ -2,7 +2,7 @@
 -- the struct of the code says. Assumes nothing.
 use mathlib.Core.Bool.{Bool, true, false, not, _&&_, _||_}
 use mathlib.Core.List.{List, [], _∷_, _++_}
-use Prim.Native.Nat.{ℕ, _-_, _^_}
+use Prim.Native.Nat.{ℕ, suc, _+_, _-_, _*_, _^_}
 use lib.Dec.{eqb, ltb}
 use lib.ListN.{length, getD, replicate}
 use Rattle.refusal.specs.Refusals.{numberOf, Fault, fault, Answer, answer, answerAfter}
@@ -11,19 +11,24 @@ use Rattle.refusal.specs.declared.Outcome.the-variants.{Value, Refused}
 use Rattle.field.specs.Polynomial.{degree}
 use Rattle.field.specs.Faults.{isTooLarge, callFaults}
 use Rattle.matrix.specs.Counts.{elementCount}
+use Rattle.matrix.specs.Depths.{lineDepth}
 use Rattle.search.specs.declared.SearchResult.{SearchResult}
 use Rattle.search.specs.Lightest.{Best, nothing, found, member, lightest, rowsOver}
 use Rattle.search.specs.Shape.{Shape, isGood, hadamardShape}
 
--- what is compared: the sum of the XOR counts of the row's elements
-unfoldable pub keyOf : ℕ → ℕ → List ℕ → ℕ
-keyOf p n row = elementCount p n (λ j. getD row j 0)
-
--- what is printed: the sum of the XOR counts of the row's elements
+-- what is printed, and compared first: the sum of the XOR counts of the row's elements
 unfoldable pub sumOf : ℕ → ℕ → List ℕ → ℕ
 sumOf p n row = elementCount p n (λ j. getD row j 0)
 
--- the lightest good row of a shape over the candidates, the first in dictionary order
+-- the depth of a row: that of the first output of its matrix, whose line of entries the row is
+unfoldable pub depthOfRow : ℕ → ℕ → List ℕ → ℕ
+depthOfRow p n row = lineDepth p n (λ j. getD row j 0)
+
+-- what rows are compared by: the sum, then the depth, which is at most m·n
+unfoldable pub keyOf : ℕ → ℕ → List ℕ → ℕ
+keyOf p n row = sumOf p n row * suc (degree p * n) + depthOfRow p n row
+
+-- the good row of a shape over the candidates with the least key, the first in dictionary order
 unfoldable pub lightestRow : Shape → ℕ → ℕ → List ℕ → Best
 lightestRow shape p n candidates = lightest (isGood shape p n) (keyOf p n) (rowsOver (2 ^ degree p) candidates n)
 

@@ -16,19 +16,19 @@ ghost use Rattle.search.specs.Steps.Prefix.{AllStand};
 const BEFORE: [u8; 8] = [0, 0, 1, 2, 2, 4, 4, 4];
 
 // Whether a comes next by the order: it is larger than the entry that is to be smaller, 0 at the first place, and none of the entries.
-pub fn is_next(row: [u8; 8], depth: usize, a: u8) -> bool
-    requires { ⌜ depth < 8 ⌝ }
-    ensures { λ r. ⌜ r ≡ isNext (take depth row) a ⌝ }
+pub fn is_next(row: [u8; 8], level: usize, a: u8) -> bool
+    requires { ⌜ level < 8 ⌝ }
+    ensures { λ r. ⌜ r ≡ isNext (take level row) a ⌝ }
 {
-    if depth == 0 {
+    if level == 0 {
         return 0 < a;
     }
-    let low = BEFORE[depth] as usize;
+    let low = BEFORE[level] as usize;
     if a <= row[low] {
         return false;
     }
     let mut i = 0;
-    while i < depth {
+    while i < level {
         if row[i] == a {
             return false;
         }
@@ -102,11 +102,11 @@ pub fn planes_pass(p: u16, products: &[u8; 65536], n: usize, row: [u8; 8], d: us
 }
 
 // The letter that makes the exclusive or 1 behind the first entries.
-pub fn last_letter(row: [u8; 8], depth: usize) -> u8
-    requires { ⌜ depth ≤ 8 ⌝ }
-    ensures { λ r. ⌜ r ≡ lastLetter (take depth row) ⌝ }
+pub fn last_letter(row: [u8; 8], level: usize) -> u8
+    requires { ⌜ level ≤ 8 ⌝ }
+    ensures { λ r. ⌜ r ≡ lastLetter (take level row) ⌝ }
 {
-    matrix::multiply::xor_of(row, depth) ^ 1
+    matrix::multiply::xor_of(row, level) ^ 1
 }
 
 // Whether a row whose exclusive or is 1 is good, where each entry may stand: blocks of up to half the order decide, of these the ones

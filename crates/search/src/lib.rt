@@ -1,5 +1,5 @@
 // The search for the lightest row: of all rows over the candidates whose Hadamard matrix is an involution and MDS, the one with the
-// least sum of XOR counts, the first in dictionary order among equals.
+// least sum of XOR counts, among equal sums with the least depth, and the first in dictionary order among equals.
 
 ghost use mathlib.Core.Path.{_≡_};
 ghost use mathlib.Core.Bool.{false};
@@ -18,11 +18,13 @@ mod hadamard;
 mod letters;
 mod prefix;
 
-// The row kept: its entries with zeros behind them, and its key; all zeros where none is found.
+// The row kept: its entries with zeros behind them, its depth, and the sum of its counts; all zeros where none is found.
+// With the fields in this order it fills sixteen bytes, which are moved at once.
 struct Best {
     found: bool,
     row: [u8; 8],
-    key: u32,
+    depth: u8,
+    count: u32,
 }
 
 // What a search answers: the sum of the row's counts or the refusal, and the row, all zeros where the search is refused.
@@ -44,14 +46,17 @@ fn lightest_row(p: u16, n: usize, candidates: &[u32]) -> Best
     let none = Best {
         found: false,
         row: [0; 8],
-        key: 0,
+        depth: 0,
+        count: 0,
     };
+    let ones = matrix::figure::ones_table(p);
     let products = field::products(p);
     prefix::extend(
         p,
         &products,
         n,
         &list[..count],
+        &ones,
         &counts,
         least,
         0,

@@ -1,11 +1,14 @@
 // The walk over the rows, entry by entry: each prefix is extended by the letters that can still lead to a lighter row.
 
 ghost use mathlib.Core.Path.{_≡_};
-ghost use mathlib.Core.Bool.{true, cond};
+ghost use mathlib.Core.Bool.{true, false, cond};
 ghost use mathlib.Core.List.{_++_, _∷_, []};
-ghost use Prim.Native.Nat.{_+_, _-_};
-ghost use lib.ListN.{take};
-ghost use Rattle.field.specs.Polynomial.{Products};
+ghost use Prim.Native.Nat.{_+_, _-_, _*_, _<_};
+ghost use lib.ListN.{getD, take, set};
+ghost use Rattle.field.specs.Polynomial.{Modulus, Products};
+ghost use Rattle.matrix.specs.Numbers.{WordsInField};
+ghost use Rattle.matrix.specs.Depths.{lineDepth};
+ghost use Rattle.matrix.specs.Steps.Figures.{onesTable, CountsOf};
 ghost use Rattle.search.specs.Lightest.{found, keepAll};
 ghost use Rattle.search.specs.Shape.{hadamardShape, isGood};
 ghost use Rattle.search.specs.Answer.{keyOf};
@@ -15,23 +18,52 @@ ghost use Rattle.search.specs.Steps.Hadamard.{isNext, hadamardCuts};
 use crate::Best;
 use crate::hadamard;
 
-// Whether a row of this key or a larger one is not lighter than the row kept.
-fn is_heavy(best: Best, key: u32) -> bool
-    ensures { λ r. ⌜ r ≡ isHeavy best key ⌝ }
+// Whether every row that begins with the prefix and the letter, and counts at least the bound, is heavier than the row kept, or as
+// heavy and not shallower. Figures are added up only where the counts are equal.
+fn is_heavy(
+    p: u16,
+    ones: &[u8; 2048],
+    counts: &[u8; 256],
+    prefix: [u8; 8],
+    level: usize,
+    a: u8,
+    bound: u32,
+    best: Best,
+) -> bool
+    requires { ⌜ Modulus p × (level < 8) × WordsInField p (level + 1) (set prefix level a) × CountsOf p (level + 1) (now counts) (set prefix level a) × (now ones ≡ onesTable p) ⌝ }
+    ensures { λ r. ⌜ r ≡ isHeavy best bound (lineDepth p (level + 1) (λ j. getD (set prefix level a) j 0)) ⌝ }
 {
-    if best.found { best.key <= key } else { false }
+    if !best.found {
+        return false;
+    }
+    if best.count != bound {
+        return best.count < bound;
+    }
+    let mut row = prefix;
+    row[level] = a;
+    best.depth <= matrix::figure::line_depth(p, ones, counts, row, level + 1)
 }
 
 // The row, where it is good; else the row kept before.
-fn finish(p: u16, products: &[u8; 65536], n: usize, row: [u8; 8], key: u32, best: Best) -> Best
-    requires { ⌜ Whole (hadamardCuts p n) p n row key × (best ≡ kept p n (bestAs n best)) × Products p (now products) ⌝ }
+fn finish(
+    p: u16,
+    products: &[u8; 65536],
+    n: usize,
+    ones: &[u8; 2048],
+    counts: &[u8; 256],
+    row: [u8; 8],
+    count: u32,
+    best: Best,
+) -> Best
+    requires { ⌜ Whole (hadamardCuts p n) p n row count × CountsOf p n (now counts) row × (now ones ≡ onesTable p) × (best ≡ kept p n (bestAs n best)) × Products p (now products) ⌝ }
     ensures { λ r. ⌜ r ≡ kept p n (cond (isGood hadamardShape p n (take n row)) (found (take n row)) (bestAs n best)) ⌝ }
 {
     if hadamard::is_good(p, products, n, row) {
         Best {
             found: true,
             row,
-            key,
+            depth: matrix::figure::line_depth(p, ones, counts, row, n),
+            count,
         }
     } else {
         best
@@ -44,18 +76,24 @@ fn branch(
     products: &[u8; 65536],
     n: usize,
     letters: &[u8],
+    ones: &[u8; 2048],
     counts: &[u8; 256],
     least: u32,
-    depth: usize,
+    level: usize,
     prefix: [u8; 8],
     count: u32,
     a: u8,
     best: Best,
 ) -> Best
-    requires { ⌜ AtPrefix (hadamardCuts p n) p n (now letters) (now counts) least depth prefix count best × NextLetter (hadamardCuts p n) n (now letters) depth prefix a × Products p (now products) ⌝ }
-    ensures { λ r. ⌜ r ≡ kept p n (keepAll (tried (hadamardCuts p n) p n) (keyOf p n) (bestAs n best) (completions (now (letters .entry)) (take depth prefix ++ a ∷ []) (n - (depth + 1)))) ⌝ }
+    requires { ⌜ AtPrefix (hadamardCuts p n) p n (now letters) (now counts) least level prefix count best × NextLetter (hadamardCuts p n) n (now letters) level prefix a × Products p (now products) × (now ones ≡ onesTable p) ⌝ }
+    ensures { λ r. ⌜ r ≡ kept p n (keepAll (tried (hadamardCuts p n) p n) (keyOf p n) (bestAs n best) (completions (now (letters .entry)) (take level prefix ++ a ∷ []) (n - (level + 1)))) ⌝ }
 {
-    if !hadamard::is_next(prefix, depth, a) {
+    if !hadamard::is_next(prefix, level, a) {
+        return best;
+    }
+    let next = level + 1;
+    let bound = count + counts[a as usize] as u32 + least * (n - next) as u32;
+    if is_heavy(p, ones, counts, prefix, level, a, bound, best) {
         return best;
     }
     grow(
@@ -63,9 +101,10 @@ fn branch(
         products,
         n,
         letters,
+        ones,
         counts,
         least,
-        depth,
+        level,
         prefix,
         count,
         a,
@@ -73,41 +112,40 @@ fn branch(
     )
 }
 
-// The same where the letter comes next by the order.
+// The same where the letter comes next by the order, and the rows are not too heavy.
 fn grow(
     p: u16,
     products: &[u8; 65536],
     n: usize,
     letters: &[u8],
+    ones: &[u8; 2048],
     counts: &[u8; 256],
     least: u32,
-    depth: usize,
+    level: usize,
     prefix: [u8; 8],
     count: u32,
     a: u8,
     best: Best,
 ) -> Best
-    requires { ⌜ AtPrefix (hadamardCuts p n) p n (now letters) (now counts) least depth prefix count best × NextLetter (hadamardCuts p n) n (now letters) depth prefix a × (isNext (take depth prefix) a ≡ true) × Products p (now products) ⌝ }
-    ensures { λ r. ⌜ r ≡ kept p n (keepAll (tried (hadamardCuts p n) p n) (keyOf p n) (bestAs n best) (completions (now (letters .entry)) (take depth prefix ++ a ∷ []) (n - (depth + 1)))) ⌝ }
+    requires { ⌜ AtPrefix (hadamardCuts p n) p n (now letters) (now counts) least level prefix count best × NextLetter (hadamardCuts p n) n (now letters) level prefix a × (isNext (take level prefix) a ≡ true) × (isHeavy best (count + getD (now counts) a 0 + least * (n - (level + 1))) (lineDepth p (level + 1) (λ j. getD (set prefix level a) j 0)) ≡ false) × Products p (now products) × (now ones ≡ onesTable p) ⌝ }
+    ensures { λ r. ⌜ r ≡ kept p n (keepAll (tried (hadamardCuts p n) p n) (keyOf p n) (bestAs n best) (completions (now (letters .entry)) (take level prefix ++ a ∷ []) (n - (level + 1)))) ⌝ }
 {
-    let next = depth + 1;
+    let next = level + 1;
     let total = count + counts[a as usize] as u32;
-    if is_heavy(best, total + least * (n - next) as u32) {
-        return best;
-    }
     let mut row = prefix;
-    row[depth] = a;
-    if !hadamard::planes_pass(p, products, n, row, depth) {
+    row[level] = a;
+    if !hadamard::planes_pass(p, products, n, row, level) {
         return best;
     }
     if next == n {
-        finish(p, products, n, row, total, best)
+        finish(p, products, n, ones, counts, row, total, best)
     } else {
         extend(
             p,
             products,
             n,
             letters,
+            ones,
             counts,
             least,
             next,
@@ -124,18 +162,19 @@ pub fn extend(
     products: &[u8; 65536],
     n: usize,
     letters: &[u8],
+    ones: &[u8; 2048],
     counts: &[u8; 256],
     least: u32,
-    depth: usize,
+    level: usize,
     prefix: [u8; 8],
     count: u32,
     best: Best,
 ) -> Best
-    requires { ⌜ AtPrefix (hadamardCuts p n) p n (now letters) (now counts) least depth prefix count best × Products p (now products) ⌝ }
-    ensures { λ r. ⌜ r ≡ kept p n (keepAll (tried (hadamardCuts p n) p n) (keyOf p n) (bestAs n best) (completions (now (letters .entry)) (take depth prefix) (n - depth))) ⌝ }
+    requires { ⌜ AtPrefix (hadamardCuts p n) p n (now letters) (now counts) least level prefix count best × Products p (now products) × (now ones ≡ onesTable p) ⌝ }
+    ensures { λ r. ⌜ r ≡ kept p n (keepAll (tried (hadamardCuts p n) p n) (keyOf p n) (bestAs n best) (completions (now (letters .entry)) (take level prefix) (n - level))) ⌝ }
 {
-    if depth + 1 == n {
-        let a = hadamard::last_letter(prefix, depth);
+    if level + 1 == n {
+        let a = hadamard::last_letter(prefix, level);
         if counts[a as usize] == 255 {
             return best;
         }
@@ -144,9 +183,10 @@ pub fn extend(
             products,
             n,
             letters,
+            ones,
             counts,
             least,
-            depth,
+            level,
             prefix,
             count,
             a,
@@ -162,9 +202,10 @@ pub fn extend(
             products,
             n,
             letters,
+            ones,
             counts,
             least,
-            depth,
+            level,
             prefix,
             count,
             a,

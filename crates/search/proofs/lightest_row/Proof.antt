@@ -34,31 +34,44 @@ least-count-requires c κs = search needs
 cast-least : tie.Need-cast-least
 cast-least c = search needs
 
+-- where the letters are known, and the start
+abbrev known-at : tie.After-products2 → tie.After-letters-of
+known-at c = c .before .before .before .before .before .before .before
+
+abbrev start-of : tie.After-letters-of → tie.Start
+start-of c = c .before .before .before .before .before
+
+ones-table-requires : tie.Need-ones-table-requires
+ones-table-requires c κs = start-of (c .before .before .before .before) .pre .0
+
 products-requires : tie.Need-products-requires
-products-requires c κs = c .before .before .before .before .before .before .before .before .before .pre .0
+products-requires c κs = start-of (c .before .before .before .before .before) .pre .0
 
 array-share-prefix-list-2 : tie.Need-array-share-prefix-list-2
-array-share-prefix-list-2 c = listed-fits _ _ (c .before .before .before .before .before .before .letters-of .ensures)
+array-share-prefix-list-2 c = listed-fits _ _ (known-at c .letters-of .ensures)
 
 slice-aggregate-extend : tie.Need-slice-aggregate-extend
-slice-aggregate-extend c = sym (length-take-le _ _ (listed-fits _ _ (c .before .before .before .before .before .before .before .letters-of .ensures)))
+slice-aggregate-extend c = sym (length-take-le _ _ (listed-fits _ _ (known-at (c .before) .letters-of .ensures)))
 
 extend-requires : tie.Need-extend-requires
 extend-requires c κs =
-    let s = c .before .before .before .before .before .before .before .before .before .before .before .before .before in
-    let known = c .before .before .before .before .before .before .before .before in (
+    let tables = c .before .before .before in
+    let known = known-at tables in
+    let s = start-of known in (
       start-at (s .args .p) (s .args .n) (s .pre .0) (s .args .candidates .now) (s .pre .2) _ _ _ _ (known .before .before .before .count-table .ensures)
-          (known .before .size .ensures) (known .letters-of .ensures) (c .before .before .before .before .least-count .ensures)
+          (known .before .size .ensures) (known .letters-of .ensures) (tables .before .before .before .least-count .ensures)
           (hadamardCuts (s .args .p) (s .args .n)) (s .pre .1) (order-least (s .args .n) (s .pre .1)) (order-most (s .args .n) (s .pre .1)),
-      c .before .before .before .products .ensures,
+      tables .before .products .ensures,
+      tables .before .before .ones-table .ensures,
     )
 
 returns : tie.Need-returns
 returns c =
-    let s = c .before .before .before .before .before .before .before .before .before .before .before .before .before .before in
-    let known = c .before .before .before .before .before .before .before .before .before in
+    let tables = c .before .before .before .before in
+    let known = known-at tables in
+    let s = start-of known in
     start-answer (s .args .p) (s .args .n) (s .pre .0) (s .args .candidates .now) (s .pre .2) _ _ _ _ (known .before .before .before .count-table .ensures)
-    (known .before .size .ensures) (known .letters-of .ensures) (c .before .before .before .before .before .least-count .ensures)
+    (known .before .size .ensures) (known .letters-of .ensures) (tables .before .before .before .least-count .ensures)
     (hadamardCuts (s .args .p) (s .args .n)) (tried-rows (s .args .p) (s .args .n) (s .pre .0) (s .pre .1) (s .args .candidates .now)) (c .extend .result) (c .extend .ensures)
 
 pub lightest-row-spec : {M : Type 1} → statement M
@@ -72,6 +85,7 @@ lightest-row-spec =
     slice-aggregate-least-count
     least-count-requires
     cast-least
+    ones-table-requires
     products-requires
     array-share-prefix-list-2
     slice-aggregate-extend

@@ -1,9 +1,9 @@
 -- The walk of the code from prefix to prefix, for any shape: what its cuts leave out, the row kept, and what holds at a prefix.
 use mathlib.Core.Path.{_≡_}
-use mathlib.Core.Bool.{Bool, true, false, cond, _&&_}
+use mathlib.Core.Bool.{Bool, true, false, cond, _&&_, _||_}
 use mathlib.Core.List.{List, _++_, List·Memᴰ}
 use Prim.Native.Nat.{ℕ, _+_, _-_, _^_, _≤_, _<_}
-use lib.Dec.{leb}
+use lib.Dec.{eqb, leb, ltb}
 use lib.ListN.{length, getD, take, drop, replicate}
 use Rattle.field.specs.Polynomial.{Modulus, degree}
 use Rattle.matrix.specs.Numbers.{WordsInField}
@@ -12,7 +12,7 @@ use Rattle.field.specs.Steps.{everyBelow}
 use Rattle.search.specs.declared.Best.{Best as Kept}
 use Rattle.search.specs.Lightest.{Best, nothing, found}
 use Rattle.search.specs.Shape.{Shape, isGood}
-use Rattle.search.specs.Answer.{keyOf}
+use Rattle.search.specs.Answer.{sumOf, depthOfRow}
 use Rattle.search.specs.Steps.Letters.{countTable, leastCount}
 
 -- ---- the cuts
@@ -40,18 +40,18 @@ tried cuts p n row = passes cuts n row && isGood (cuts .shape) p n row
 
 -- ---- the row kept
 
--- the struct that holds a best row: its entries with zeros behind them and its key; all zeros where there is none
+-- the struct that holds a best row: its entries with zeros behind them, its sum and its depth; all zeros where there is none
 unfoldable pub kept : ℕ → ℕ → Best → Kept
-kept p n nothing = record { found = false; row = replicate 8 0; key = 0 }
-kept p n (found row) = record { found = true; row = row ++ replicate (8 - n) 0; key = keyOf p n row }
+kept p n nothing = record { found = false; row = replicate 8 0; count = 0; depth = 0 }
+kept p n (found row) = record { found = true; row = row ++ replicate (8 - n) 0; count = sumOf p n row; depth = depthOfRow p n row }
 
 -- the row that a struct holds
 unfoldable pub bestAs : ℕ → Kept → Best
 bestAs n b = cond (b .found) (found (take n (b .row))) nothing
 
--- a row of this key or a larger one is not lighter than the row kept
-unfoldable pub isHeavy : Kept → ℕ → Bool
-isHeavy b key = b .found && leb (b .key) key
+-- a row of this count and this depth, or more, is heavier than the row kept, or as heavy and not shallower
+unfoldable pub isHeavy : Kept → ℕ → ℕ → Bool
+isHeavy b count depth = b .found && (ltb (b .count) count || (eqb (b .count) count && leb (b .depth) depth))
 
 -- ---- the prefix
 
@@ -66,31 +66,31 @@ pub record Brief (cuts : Cuts) (p n : ℕ) (letters counts : List ℕ) (least : 
 
 -- the first entries of an array of eight: they are letters, each may stand where it does, and their counts add up to the count; the
 -- places behind the row are 0
-pub record Reached (cuts : Cuts) (p n : ℕ) (letters : List ℕ) (depth : ℕ) (row : List ℕ) (count : ℕ) : Type 0 where
+pub record Reached (cuts : Cuts) (p n : ℕ) (letters : List ℕ) (level : ℕ) (row : List ℕ) (count : ℕ) : Type 0 where
   pub eight : length row ≡ 8
-  pub over : (a : ℕ) → List·Memᴰ a (take depth row) → List·Memᴰ a letters
-  pub stands : AllStand cuts depth row
-  pub counted : count ≡ elementCount p depth (λ j. getD row j 0)
+  pub over : (a : ℕ) → List·Memᴰ a (take level row) → List·Memᴰ a letters
+  pub stands : AllStand cuts level row
+  pub counted : count ≡ elementCount p level (λ j. getD row j 0)
   pub rest : drop n row ≡ replicate (8 - n) 0
 
--- a whole row of order n over the field with its key, whose entries may stand where they do, the last as the last
-pub record Whole (cuts : Cuts) (p n : ℕ) (row : List ℕ) (key : ℕ) : Type 0 where
+-- a whole row of order n over the field with its sum, whose entries may stand where they do, the last as the last
+pub record Whole (cuts : Cuts) (p n : ℕ) (row : List ℕ) (count : ℕ) : Type 0 where
   pub modulus : Modulus p
   pub order : cuts .Order n
   pub inField : WordsInField p n row
   pub stands : AllStand cuts n row
   pub ends : cuts .mayEnd (take (n - 1) row) (getD row (n - 1) 0) ≡ true
-  pub keyed : key ≡ keyOf p n (take n row)
+  pub counted : count ≡ sumOf p n (take n row)
   pub rest : drop n row ≡ replicate (8 - n) 0
 
 -- the walk is at a prefix that is no whole row, with a row kept
-pub record AtPrefix (cuts : Cuts) (p n : ℕ) (letters counts : List ℕ) (least depth : ℕ) (row : List ℕ) (count : ℕ) (best : Kept) : Type 0 where
+pub record AtPrefix (cuts : Cuts) (p n : ℕ) (letters counts : List ℕ) (least level : ℕ) (row : List ℕ) (count : ℕ) (best : Kept) : Type 0 where
   pub brief : Brief cuts p n letters counts least
-  pub reached : Reached cuts p n letters depth row count
-  pub inside : depth < n
+  pub reached : Reached cuts p n letters level row count
+  pub inside : level < n
   pub holds : best ≡ kept p n (bestAs n best)
 
 -- a letter that may come next: at the last place it may be the last
-pub record NextLetter (cuts : Cuts) (n : ℕ) (letters : List ℕ) (depth : ℕ) (row : List ℕ) (a : ℕ) : Type 0 where
+pub record NextLetter (cuts : Cuts) (n : ℕ) (letters : List ℕ) (level : ℕ) (row : List ℕ) (a : ℕ) : Type 0 where
   pub letter : List·Memᴰ a letters
-  pub last : depth + 1 ≡ n → cuts .mayEnd (take depth row) a ≡ true
+  pub last : level + 1 ≡ n → cuts .mayEnd (take level row) a ≡ true

@@ -14,31 +14,31 @@ use Rattle.search.proofs.hadamard.is_next.Statement.{statement}
 use Rattle.search.proofs.hadamard.is_next.Tie as tie
 
 abbrev Inv-loop : tie.InvT-loop
-Inv-loop depth a row low i₀ i = (i ≤ depth) × (member a (take i row) ≡ false)
+Inv-loop level a row low i₀ i = (i ≤ level) × (member a (take i row) ≡ false)
 
 abbrev μ-loop : tie.MeasureT-loop
-μ-loop depth a row low i₀ i = depth - i
+μ-loop level a row low i₀ i = level - i
 
 returns : tie.Need-returns Inv-loop μ-loop
-returns c = next-first (c .before .args .t1) (c .before .args .depth) (c .before .args .a) (c .if1 .taken)
+returns c = next-first (c .before .args .t1) (c .before .args .level) (c .before .args .a) (c .if1 .taken)
 
 array-read-low : tie.Need-array-read-low Inv-loop μ-loop
 array-read-low c = search needs
 
 cast-low : tie.Need-cast-low Inv-loop μ-loop
 unfolding placeBefore
-cast-low c = record { fits = lt-of-lt-of-le (place-inside (c .before .args .depth) (c .if1 .left) (c .before .pre)) (lit≤ tt) }
+cast-low c = record { fits = lt-of-lt-of-le (place-inside (c .before .args .level) (c .if1 .left) (c .before .pre)) (lit≤ tt) }
 
 array-read-if2 : tie.Need-array-read-if2 Inv-loop μ-loop
 unfolding placeBefore
-array-read-if2 c = place-inside (c .before .args .depth) (c .if1 .left) (c .before .pre)
+array-read-if2 c = place-inside (c .before .args .level) (c .if1 .left) (c .before .pre)
 
 returns-2 : tie.Need-returns-2 Inv-loop μ-loop
 unfolding placeBefore
 returns-2 c =
     let args = c .before .before .args in
     let eight : length (args .t1) ≡ 8 = search needs in
-    next-low (args .t1) (args .depth) (args .a) (omega arith) (c .before .before .pre) (pos-of-ne-zero (c .before .if1 .left)) (c .if2 .taken)
+    next-low (args .t1) (args .level) (args .a) (omega arith) (c .before .before .pre) (pos-of-ne-zero (c .before .if1 .left)) (c .if2 .taken)
 
 loop-holds : tie.Need-loop-holds Inv-loop μ-loop
 unfolding member
@@ -52,7 +52,7 @@ returns-3 c =
     let s = c .before .before .before .before .before in
     let args = s .args in
     let eight : length (args .t1) ≡ 8 = search needs in
-    next-equal (args .t1) (args .depth) (args .a) (omega arith) (s .pre) (omega arith) (c .before .before .loop .i) (c .before .loop-test .taken) (c .if3 .taken)
+    next-equal (args .t1) (args .level) (args .a) (omega arith) (s .pre) (omega arith) (c .before .before .loop .i) (c .before .loop-test .taken) (c .if3 .taken)
 
 add-i : tie.Need-add-i Inv-loop μ-loop
 add-i c = search needs
@@ -73,8 +73,8 @@ returns-4 c =
     let s = c .before .before .before .before in
     let args = s .args in
     let eight : length (args .t1) ≡ 8 = search needs in
-    let all : c .before .loop .i ≡ args .depth = omega arith in
-    next-passes (args .t1) (args .depth) (args .a) (omega arith) (s .pre) (pos-of-ne-zero (c .before .before .before .if1 .left)) (c .before .before .if2 .left) (rw all at (c .before .loop .inv .1))
+    let all : c .before .loop .i ≡ args .level = omega arith in
+    next-passes (args .t1) (args .level) (args .a) (omega arith) (s .pre) (pos-of-ne-zero (c .before .before .before .if1 .left)) (c .before .before .if2 .left) (rw all at (c .before .loop .inv .1))
 
 pub is-next-spec : {M : Type 1} → statement M
 is-next-spec =

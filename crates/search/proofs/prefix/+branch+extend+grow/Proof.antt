@@ -1,4 +1,4 @@
--- The proof of the cycle of calls {branch, grow, extend}: with d = n - depth the measures are 3·d + 1, 3·d and 3·d + 2. Assumes nothing.
+-- The proof of the cycle of calls {branch, grow, extend}: with d = n - level the measures are 3·d + 1, 3·d and 3·d + 2. Assumes nothing.
 use mathlib.Core.Path.{_≡_, sym, ap, _∙_}
 use mathlib.Core.Bool.{true}
 use Prim.Native.Nat.{ℕ, _+_, _-_, _≤_, _<_, zero-le}
@@ -13,8 +13,8 @@ use Rattle.search.specs.Answer.{keyOf}
 use Rattle.search.specs.Steps.Prefix.{kept, bestAs, tried}
 use Rattle.search.specs.Steps.Hadamard.{mayStand, hadamardCuts}
 use Rattle.search.proofs.HadamardCuts.{stand-not-next, stand-not-planes, stand-both, only-last}
-use Rattle.search.proofs.Prefixes.{depth-inside, depth-fits, count-small, bound-small, letter-small, branch-left, branch-heavy}
-use Rattle.search.proofs.Prefixes.{prefix-next, in-field-next, at-next, whole-next, branch-whole}
+use Rattle.search.proofs.Prefixes.{level-inside, level-fits, count-small, bound-small, letter-small, branch-left, branch-heavy}
+use Rattle.search.proofs.Prefixes.{prefix-next, in-field-next, in-field-suc, counts-next, counts-whole, at-next, whole-next, branch-whole}
 use Rattle.search.proofs.Prefixes.{upto-none, upto-letter, upto-at, upto-more, upto-all, last-left, last-taken, last-row}
 use borrow.Author.Needs.{needs}
 use borrow.Fn.Kinds.{In}
@@ -39,47 +39,38 @@ use Rattle.search.proofs.prefix.+branch+extend+grow.Tie.{close}
 abbrev thrice : ℕ → ℕ
 thrice d = d + d + d
 
-abbrev μ-branch : Measures 3 branch-kinds.ps ℕ
-μ-branch κs a = thrice (a .1 .1 .0 - a .1 .1 .1 .1 .1 .1 .0) + 1
+abbrev μ-branch : Measures 4 branch-kinds.ps ℕ
+μ-branch κs a = thrice (a .1 .1 .0 - a .1 .1 .1 .1 .1 .1 .1 .0) + 1
 
-abbrev μ-extend : Measures 3 extend-kinds.ps ℕ
-μ-extend κs a = thrice (a .1 .1 .0 - a .1 .1 .1 .1 .1 .1 .0) + 2
+abbrev μ-extend : Measures 4 extend-kinds.ps ℕ
+μ-extend κs a = thrice (a .1 .1 .0 - a .1 .1 .1 .1 .1 .1 .1 .0) + 2
 
-abbrev μ-grow : Measures 3 grow-kinds.ps ℕ
-μ-grow κs a = thrice (a .1 .1 .0 - a .1 .1 .1 .1 .1 .1 .0)
+abbrev μ-grow : Measures 4 grow-kinds.ps ℕ
+μ-grow κs a = thrice (a .1 .1 .0 - a .1 .1 .1 .1 .1 .1 .1 .0)
 
-abbrev branch-at : ℕ → In 3 branch-kinds.ps
-branch-at t = and 3 branch-kinds.ps (is 3 branch-kinds.ps μ-branch t) branch.Pre
+abbrev branch-at : ℕ → In 4 branch-kinds.ps
+branch-at t = and 4 branch-kinds.ps (is 4 branch-kinds.ps μ-branch t) branch.Pre
 
-abbrev branch-below : ℕ → In 3 branch-kinds.ps
-branch-below t = and 3 branch-kinds.ps (falls 3 branch-kinds.ps _<_ μ-branch t) branch.Pre
+abbrev branch-below : ℕ → In 4 branch-kinds.ps
+branch-below t = and 4 branch-kinds.ps (falls 4 branch-kinds.ps _<_ μ-branch t) branch.Pre
 
-abbrev extend-at : ℕ → In 3 extend-kinds.ps
-extend-at t = and 3 extend-kinds.ps (is 3 extend-kinds.ps μ-extend t) extend.Pre
+abbrev extend-at : ℕ → In 4 extend-kinds.ps
+extend-at t = and 4 extend-kinds.ps (is 4 extend-kinds.ps μ-extend t) extend.Pre
 
-abbrev extend-below : ℕ → In 3 extend-kinds.ps
-extend-below t = and 3 extend-kinds.ps (falls 3 extend-kinds.ps _<_ μ-extend t) extend.Pre
+abbrev extend-below : ℕ → In 4 extend-kinds.ps
+extend-below t = and 4 extend-kinds.ps (falls 4 extend-kinds.ps _<_ μ-extend t) extend.Pre
 
-abbrev grow-at : ℕ → In 3 grow-kinds.ps
-grow-at t = and 3 grow-kinds.ps (is 3 grow-kinds.ps μ-grow t) grow.Pre
+abbrev grow-at : ℕ → In 4 grow-kinds.ps
+grow-at t = and 4 grow-kinds.ps (is 4 grow-kinds.ps μ-grow t) grow.Pre
 
-abbrev grow-below : ℕ → In 3 grow-kinds.ps
-grow-below t = and 3 grow-kinds.ps (falls 3 grow-kinds.ps _<_ μ-grow t) grow.Pre
+abbrev grow-below : ℕ → In 4 grow-kinds.ps
+grow-below t = and 4 grow-kinds.ps (falls 4 grow-kinds.ps _<_ μ-grow t) grow.Pre
 
 abbrev branch-given : ℕ → branch-lts.Claims
-branch-given t = (is-next-reads.Asked, is-next-reads.Learnt, grow-below t, grow.Post)
+branch-given t = (is-next-reads.Asked, is-next-reads.Learnt, is-heavy-reads.Asked, is-heavy-reads.Learnt, grow-below t, grow.Post)
 
 abbrev grow-given : ℕ → grow-lts.Claims
-grow-given t = (
-  is-heavy-reads.Asked,
-  is-heavy-reads.Learnt,
-  planes-pass-reads.Asked,
-  planes-pass-reads.Learnt,
-  finish-reads.Asked,
-  finish-reads.Learnt,
-  extend-below t,
-  extend.Post,
-)
+grow-given t = (planes-pass-reads.Asked, planes-pass-reads.Learnt, finish-reads.Asked, finish-reads.Learnt, extend-below t, extend.Post)
 
 abbrev extend-given : ℕ → extend-lts.Claims
 extend-given t = (last-letter-reads.Asked, last-letter-reads.Learnt, branch-below t, branch.Post)
@@ -87,7 +78,7 @@ extend-given t = (last-letter-reads.Asked, last-letter-reads.Learnt, branch-belo
 branch-is-next-requires : (t : ℕ) → branch-lts.Need-is-next-requires (branch-given t) (branch-at t) branch.Post
 branch-is-next-requires t c κs =
     let s = c .before in
-    depth-inside (s .pre .1 .0)
+    level-inside (s .pre .1 .0)
 
 branch-returns : (t : ℕ) → branch-lts.Need-returns (branch-given t) (branch-at t) branch.Post
 branch-returns t c =
@@ -95,20 +86,78 @@ branch-returns t c =
     branch-left (s .pre .1 .0) (s .pre .1 .1)
     (stand-not-next _ _ _ _ (sym (c .before .is-next .ensures) ∙ not-true (c .before .is-next .result) (c .if1 .taken)))
 
-branch-grow-requires : (t : ℕ) → branch-lts.Need-grow-requires (branch-given t) (branch-at t) branch.Post
-branch-grow-requires t c κs =
-    let s = c .before .before .before in
-    let next = c .before .is-next in
-    let same : thrice (s .args .n - s .args .depth) + 1 ≡ t = s .pre .0 in
-    let less : thrice (s .args .n - s .args .depth) < t = omega arith in
-    (less, (s .pre .1 .0, s .pre .1 .1, sym (next .ensures) ∙ not-false (next .result) (c .if1 .left), s .pre .1 .2))
+branch-add-next : (t : ℕ) → branch-lts.Need-add-next (branch-given t) (branch-at t) branch.Post
+branch-add-next t c = search needs
+
+branch-element-copy-out-bound : (t : ℕ) → branch-lts.Need-element-copy-out-bound (branch-given t) (branch-at t) branch.Post
+branch-element-copy-out-bound t c = search needs
+
+-- the start, from where the bound is added up
+abbrev start-of : (t : ℕ) → branch-lts.After-bound (branch-given t) (branch-at t) branch.Post → branch-lts.Start (branch-given t) (branch-at t) branch.Post
+start-of t c = c .before .before .before .before
+
+branch-cast-bound : (t : ℕ) → branch-lts.Need-cast-bound (branch-given t) (branch-at t) branch.Post
+branch-cast-bound t c =
+    let s = start-of t c in
+    record { fits = omega (arith, letter-small (s .pre .1 .0) (s .pre .1 .1)) }
+
+branch-add-bound : (t : ℕ) → branch-lts.Need-add-bound (branch-given t) (branch-at t) branch.Post
+branch-add-bound t c =
+    let s = start-of t c in
+    record { fits = omega (arith, letter-small (s .pre .1 .0) (s .pre .1 .1), count-small (s .pre .1 .0)) }
+
+branch-sub-bound : (t : ℕ) → branch-lts.Need-sub-bound (branch-given t) (branch-at t) branch.Post
+branch-sub-bound t c = search needs
+
+branch-cast-bound-2 : (t : ℕ) → branch-lts.Need-cast-bound-2 (branch-given t) (branch-at t) branch.Post
+branch-cast-bound-2 t c = record { fits = omega (arith, start-of t c .pre .1 .0 .brief .most) }
+
+branch-mul-bound : (t : ℕ) → branch-lts.Need-mul-bound (branch-given t) (branch-at t) branch.Post
+branch-mul-bound t c = record { fits = lt-of-le-of-lt (bound-small (start-of t c .pre .1 .0)) (lit< tt) }
+
+branch-add-bound-2 : (t : ℕ) → branch-lts.Need-add-bound-2 (branch-given t) (branch-at t) branch.Post
+branch-add-bound-2 t c =
+    let s = start-of t c in
+    record { fits = omega (arith, letter-small (s .pre .1 .0) (s .pre .1 .1), count-small (s .pre .1 .0), bound-small (s .pre .1 .0)) }
+
+branch-is-heavy-requires : (t : ℕ) → branch-lts.Need-is-heavy-requires (branch-given t) (branch-at t) branch.Post
+branch-is-heavy-requires t c κs =
+    let s = start-of t c in (
+      s .pre .1 .0 .brief .modulus,
+      level-inside (s .pre .1 .0),
+      in-field-next (s .pre .1 .0) (s .pre .1 .1),
+      counts-next (s .pre .1 .0) (s .pre .1 .1),
+      s .pre .1 .3,
+    )
 
 branch-returns-2 : (t : ℕ) → branch-lts.Need-returns-2 (branch-given t) (branch-at t) branch.Post
-branch-returns-2 t c = c .grow .ensures
+branch-returns-2 t c =
+    let s = start-of t (c .before .before) in
+    branch-heavy (s .pre .1 .0) (s .pre .1 .1) (sym (c .before .is-heavy .ensures) ∙ c .if2 .taken)
+
+branch-grow-requires : (t : ℕ) → branch-lts.Need-grow-requires (branch-given t) (branch-at t) branch.Post
+branch-grow-requires t c κs =
+    let s = start-of t (c .before .before) in
+    let next = c .before .before .before .before .is-next in
+    let same : thrice (s .args .n - s .args .level) + 1 ≡ t = s .pre .0 in
+    let less : thrice (s .args .n - s .args .level) < t = omega arith in (
+      less,
+      (
+        s .pre .1 .0,
+        s .pre .1 .1,
+        sym (next .ensures) ∙ not-false (next .result) (c .before .before .before .if1 .left),
+        sym (c .before .is-heavy .ensures) ∙ c .if2 .left,
+        s .pre .1 .2,
+        s .pre .1 .3,
+      ),
+    )
+
+branch-returns-3 : (t : ℕ) → branch-lts.Need-returns-3 (branch-given t) (branch-at t) branch.Post
+branch-returns-3 t c = c .grow .ensures
 
 -- the letter may stand behind the prefix
 abbrev Stands : (t : ℕ) → grow-lts.Start (grow-given t) (grow-at t) grow.Post → Type 0
-Stands t s = mayStand (s .args .p) (s .args .n) (take (s .args .depth) (s .args .prefix)) (s .args .a) ≡ true
+Stands t s = mayStand (s .args .p) (s .args .n) (take (s .args .level) (s .args .prefix)) (s .args .a) ≡ true
 
 grow-add-next : (t : ℕ) → grow-lts.Need-add-next (grow-given t) (grow-at t) grow.Post
 grow-add-next t c = search needs
@@ -126,91 +175,70 @@ grow-add-total t c =
     let s = c .before .before in
     record { fits = omega (arith, letter-small (s .pre .1 .0) (s .pre .1 .1), count-small (s .pre .1 .0)) }
 
-grow-sub-is-heavy : (t : ℕ) → grow-lts.Need-sub-is-heavy (grow-given t) (grow-at t) grow.Post
-grow-sub-is-heavy t c = search needs
-
-grow-cast-is-heavy : (t : ℕ) → grow-lts.Need-cast-is-heavy (grow-given t) (grow-at t) grow.Post
-grow-cast-is-heavy t c =
+grow-array-write-row : (t : ℕ) → grow-lts.Need-array-write-row (grow-given t) (grow-at t) grow.Post
+grow-array-write-row t c =
     let s = c .before .before in
-    record { fits = omega (arith, s .pre .1 .0 .brief .most) }
+    level-inside (s .pre .1 .0)
 
-grow-mul-is-heavy : (t : ℕ) → grow-lts.Need-mul-is-heavy (grow-given t) (grow-at t) grow.Post
-grow-mul-is-heavy t c =
+grow-planes-pass-requires : (t : ℕ) → grow-lts.Need-planes-pass-requires (grow-given t) (grow-at t) grow.Post
+grow-planes-pass-requires t c κs =
     let s = c .before .before in
-    record { fits = lt-of-le-of-lt (bound-small (s .pre .1 .0)) (lit< tt) }
-
-grow-add-is-heavy : (t : ℕ) → grow-lts.Need-add-is-heavy (grow-given t) (grow-at t) grow.Post
-grow-add-is-heavy t c =
-    let s = c .before .before in
-    record { fits = omega (arith, letter-small (s .pre .1 .0) (s .pre .1 .1), count-small (s .pre .1 .0), bound-small (s .pre .1 .0)) }
-
-grow-is-heavy-requires : (t : ℕ) → grow-lts.Need-is-heavy-requires (grow-given t) (grow-at t) grow.Post
-grow-is-heavy-requires t c κs = search needs
+    (level-inside (s .pre .1 .0), in-field-suc (s .pre .1 .0) (s .pre .1 .1), s .pre .1 .4)
 
 grow-returns : (t : ℕ) → grow-lts.Need-returns (grow-given t) (grow-at t) grow.Post
 grow-returns t c =
     let s = c .before .before .before .before in
-    branch-heavy (s .pre .1 .0) (s .pre .1 .1) (sym (c .before .is-heavy .ensures) ∙ c .if1 .taken)
+    branch-left (s .pre .1 .0) (s .pre .1 .1)
+    (stand-not-planes _ _ _ _ (level-fits (s .pre .1 .0)) _ (sym (c .before .planes-pass .ensures) ∙ not-true (c .before .planes-pass .result) (c .if1 .taken)))
 
-grow-array-write-row : (t : ℕ) → grow-lts.Need-array-write-row (grow-given t) (grow-at t) grow.Post
-grow-array-write-row t c =
+-- the letter may stand there
+stands : (t : ℕ) (c : grow-lts.Else1 (grow-given t) (grow-at t) grow.Post) → Stands t (c .before .before .before .before)
+stands t c =
     let s = c .before .before .before .before in
-    depth-inside (s .pre .1 .0)
+    stand-both _ _ _ _ (level-fits (s .pre .1 .0)) _ (s .pre .1 .2)
+    (sym (c .before .planes-pass .ensures) ∙ not-false (c .before .planes-pass .result) (c .if1 .left))
 
-grow-planes-pass-requires : (t : ℕ) → grow-lts.Need-planes-pass-requires (grow-given t) (grow-at t) grow.Post
-grow-planes-pass-requires t c κs =
-    let s = c .before .before .before .before in
-    (depth-inside (s .pre .1 .0), in-field-next (s .pre .1 .0) (s .pre .1 .1), s .pre .1 .3)
+grow-finish-requires : (t : ℕ) → grow-lts.Need-finish-requires (grow-given t) (grow-at t) grow.Post
+grow-finish-requires t c κs =
+    let s = c .before .before .before .before .before in
+    let may = stands t (c .before) in (
+      whole-next (s .pre .1 .0) (s .pre .1 .1) may (c .if2 .taken),
+      counts-whole (s .pre .1 .0) (s .pre .1 .1) may (c .if2 .taken),
+      s .pre .1 .5,
+      s .pre .1 .0 .holds,
+      s .pre .1 .4,
+    )
+
+grow-extend-requires : (t : ℕ) → grow-lts.Need-extend-requires (grow-given t) (grow-at t) grow.Post
+grow-extend-requires t c κs =
+    let s = c .before .before .before .before .before in
+    let n = s .args .n in
+    let level = s .args .level in
+    let inside : level < n = s .pre .1 .0 .inside in
+    let same : thrice (n - level) ≡ t = s .pre .0 in
+    let less : thrice (n - (level + 1)) + 2 < t = omega arith in
+    (less, (at-next (s .pre .1 .0) (s .pre .1 .1) (stands t (c .before)) (c .if2 .left), s .pre .1 .4, s .pre .1 .5))
 
 grow-returns-2 : (t : ℕ) → grow-lts.Need-returns-2 (grow-given t) (grow-at t) grow.Post
 grow-returns-2 t c =
     let s = c .before .before .before .before .before .before in
-    branch-left (s .pre .1 .0) (s .pre .1 .1)
-    (stand-not-planes _ _ _ _ (depth-fits (s .pre .1 .0)) _ (sym (c .before .planes-pass .ensures) ∙ not-true (c .before .planes-pass .result) (c .if2 .taken)))
-
--- the letter may stand there
-stands : (t : ℕ) (c : grow-lts.Else2 (grow-given t) (grow-at t) grow.Post) → Stands t (c .before .before .before .before .before .before)
-stands t c =
-    let s = c .before .before .before .before .before .before in
-    stand-both _ _ _ _ (depth-fits (s .pre .1 .0)) _ (s .pre .1 .2)
-    (sym (c .before .planes-pass .ensures) ∙ not-false (c .before .planes-pass .result) (c .if2 .left))
-
-grow-finish-requires : (t : ℕ) → grow-lts.Need-finish-requires (grow-given t) (grow-at t) grow.Post
-grow-finish-requires t c κs =
-    let s = c .before .before .before .before .before .before .before in
-    (whole-next (s .pre .1 .0) (s .pre .1 .1) (stands t (c .before)) (c .if3 .taken), s .pre .1 .0 .holds, s .pre .1 .3)
-
-grow-extend-requires : (t : ℕ) → grow-lts.Need-extend-requires (grow-given t) (grow-at t) grow.Post
-grow-extend-requires t c κs =
-    let s = c .before .before .before .before .before .before .before in
-    let n = s .args .n in
-    let depth = s .args .depth in
-    let inside : depth < n = s .pre .1 .0 .inside in
-    let same : thrice (n - depth) ≡ t = s .pre .0 in
-    let less : thrice (n - (depth + 1)) + 2 < t = omega arith in
-    (less, (at-next (s .pre .1 .0) (s .pre .1 .1) (stands t (c .before)) (c .if3 .left), s .pre .1 .3))
+    c .finish .ensures
+    ∙ ap (kept (s .args .p) (s .args .n))
+    (branch-whole (s .pre .1 .0) (s .pre .1 .1) (stands t (c .before .before)) (c .before .if2 .taken) (s .pre .1 .3))
 
 grow-returns-3 : (t : ℕ) → grow-lts.Need-returns-3 (grow-given t) (grow-at t) grow.Post
 grow-returns-3 t c =
-    let s = c .before .before .before .before .before .before .before .before in
-    c .finish .ensures
-    ∙ ap (kept (s .args .p) (s .args .n))
-    (branch-whole (s .pre .1 .0) (s .pre .1 .1) (stands t (c .before .before)) (c .before .if3 .taken)
-    (sym (c .before .before .before .before .before .is-heavy .ensures) ∙ c .before .before .before .before .if1 .left))
-
-grow-returns-4 : (t : ℕ) → grow-lts.Need-returns-4 (grow-given t) (grow-at t) grow.Post
-grow-returns-4 t c =
-    let s = c .before .before .before .before .before .before .before .before in
+    let s = c .before .before .before .before .before .before in
     let a = s .args in
     c .extend .ensures
-    ∙ ap (λ l. kept (a .p) (a .n) (keepAll (tried (hadamardCuts (a .p) (a .n)) (a .p) (a .n)) (keyOf (a .p) (a .n)) (bestAs (a .n) (a .best)) (completions (a .letters .now) l (a .n - (a .depth + 1)))))
+    ∙ ap (λ l. kept (a .p) (a .n) (keepAll (tried (hadamardCuts (a .p) (a .n)) (a .p) (a .n)) (keyOf (a .p) (a .n)) (bestAs (a .n) (a .best)) (completions (a .letters .now) l (a .n - (a .level + 1)))))
     (prefix-next (s .pre .1 .0) (s .pre .1 .1))
 
 abbrev extend-Inv-loop : extend-lts.InvT-loop
-extend-Inv-loop p products n letters counts least depth prefix count held₀ i₀ held i = (i ≤ length letters) × (held ≡ kept p n (branches (tried (hadamardCuts p n) p n) (keyOf p n) letters (take depth prefix) (n - (depth + 1)) (bestAs n held₀) (take i letters)))
+extend-Inv-loop p products n letters ones counts least level prefix count held₀ i₀ held i = (i ≤ length letters) × (held ≡ kept p n (branches (tried (hadamardCuts p n) p n) (keyOf p n) letters (take level prefix) (n - (level + 1)) (bestAs n held₀) (take i letters)))
 
 abbrev extend-μ-loop : extend-lts.MeasureT-loop
-extend-μ-loop p products n letters counts least depth prefix count held₀ i₀ held i = length letters - i
+extend-μ-loop p products n letters ones counts least level prefix count held₀ i₀ held i = length letters - i
 
 extend-add-if1 : (t : ℕ) → extend-lts.Need-add-if1 (extend-given t) (extend-at t) extend.Post extend-Inv-loop extend-μ-loop
 extend-add-if1 t c = search needs
@@ -237,11 +265,11 @@ extend-branch-requires t c κs =
     let s = c .before .before .before .before .before in
     let x = c .before .before .last-letter in
     let n = s .args .n in
-    let depth = s .args .depth in
-    let same : thrice (n - depth) + 2 ≡ t = s .pre .0 in
-    let less : thrice (n - depth) + 1 < t = omega arith in
+    let level = s .args .level in
+    let same : thrice (n - level) + 2 ≡ t = s .pre .0 in
+    let less : thrice (n - level) + 1 < t = omega arith in
     let letter = last-taken (s .pre .1 .0) (c .before .before .before .if1 .taken) (x .result) (omega (arith, x .ok)) (only-last _ _ _ (x .result) (x .ensures)) (c .if2 .left) in
-    (less, (s .pre .1 .0, letter, s .pre .1 .1))
+    (less, (s .pre .1 .0, letter, s .pre .1 .1, s .pre .1 .2))
 
 extend-returns-2 : (t : ℕ) → extend-lts.Need-returns-2 (extend-given t) (extend-at t) extend.Post extend-Inv-loop extend-μ-loop
 extend-returns-2 t c =
@@ -261,13 +289,13 @@ extend-branch-requires-2 : (t : ℕ) → extend-lts.Need-branch-requires-2 (exte
 extend-branch-requires-2 t c κs =
     let s = c .before .before .before .before .before in
     let n = s .args .n in
-    let depth = s .args .depth in
+    let level = s .args .level in
     let at = c .before .before .loop in
-    let long : length (s .args .best .row) ≡ 8 = search (needs, s .good .1 .1 .1 .1 .1 .1 .1 .1 .1 .0) in
-    let same : thrice (n - depth) + 2 ≡ t = s .pre .0 in
-    let less : thrice (n - depth) + 1 < t = omega arith in
+    let long : length (s .args .best .row) ≡ 8 = search (needs, s .good .1 .1 .1 .1 .1 .1 .1 .1 .1 .1 .0) in
+    let same : thrice (n - level) + 2 ≡ t = s .pre .0 in
+    let less : thrice (n - level) + 1 < t = omega arith in
     let letter = upto-letter (s .pre .1 .0) (c .before .before .before .if1 .left) (at .i) (c .before .loop-test .taken) in
-    (less, (upto-at (s .pre .1 .0) long (at .i) (at .held) (at .inv .1), letter, s .pre .1 .1))
+    (less, (upto-at (s .pre .1 .0) long (at .i) (at .held) (at .inv .1), letter, s .pre .1 .1, s .pre .1 .2))
 
 extend-add-i : (t : ℕ) → extend-lts.Need-add-i (extend-given t) (extend-at t) extend.Post extend-Inv-loop extend-μ-loop
 extend-add-i t c = search needs
@@ -280,7 +308,7 @@ extend-loop-again t c =
     let s = c .before .before .before .before .before .before in
     let at = c .before .before .before .loop in
     let less = c .before .before .loop-test .taken in
-    let long : length (s .args .best .row) ≡ 8 = search (needs, s .good .1 .1 .1 .1 .1 .1 .1 .1 .1 .0) in
+    let long : length (s .args .best .row) ≡ 8 = search (needs, s .good .1 .1 .1 .1 .1 .1 .1 .1 .1 .1 .0) in
     (omega (arith, less), upto-more (s .pre .1 .0) long (at .i) (at .held) (at .inv .1) less (c .branch2 .result) (c .branch2 .ensures))
 
 extend-returns-3 : (t : ℕ) → extend-lts.Need-returns-3 (extend-given t) (extend-at t) extend.Post extend-Inv-loop extend-μ-loop
@@ -296,8 +324,18 @@ pub +branch+extend+grow-spec : {M : Type 1} → statement M
     branch.Post
     (branch-is-next-requires t)
     (branch-returns t)
+    (branch-add-next t)
+    (branch-element-copy-out-bound t)
+    (branch-cast-bound t)
+    (branch-add-bound t)
+    (branch-sub-bound t)
+    (branch-cast-bound-2 t)
+    (branch-mul-bound t)
+    (branch-add-bound-2 t)
+    (branch-is-heavy-requires t)
+    (branch-returns-2 t)
     (branch-grow-requires t)
-    (branch-returns-2 t))
+    (branch-returns-3 t))
     (λ t. extend-lts.spec (extend-given t)
     (extend-at t)
     extend.Post
@@ -325,16 +363,10 @@ pub +branch+extend+grow-spec : {M : Type 1} → statement M
     (grow-element-copy-out-total t)
     (grow-cast-total t)
     (grow-add-total t)
-    (grow-sub-is-heavy t)
-    (grow-cast-is-heavy t)
-    (grow-mul-is-heavy t)
-    (grow-add-is-heavy t)
-    (grow-is-heavy-requires t)
-    (grow-returns t)
     (grow-array-write-row t)
     (grow-planes-pass-requires t)
-    (grow-returns-2 t)
+    (grow-returns t)
     (grow-finish-requires t)
     (grow-extend-requires t)
+    (grow-returns-2 t)
     (grow-returns-3 t)
-    (grow-returns-4 t)

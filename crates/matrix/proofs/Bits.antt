@@ -12,8 +12,8 @@ use Rattle.field.specs.Polynomial.{_⊕_, product}
 use Rattle.field.proofs.Sum.{at-digit, sum-shr, sum-digit, sum-comm}
 use Rattle.field.proofs.Degrees.{HasDegree}
 use Rattle.field.proofs.Field.{times-zero-r, times-sum-r}
 use Rattle.matrix.specs.Numbers.{numbers}
-use Rattle.gates.specs.Gates.{bit}
+use Rattle.matrix.specs.Depths.{bit}
 
 -- ---- sums
 

@@ -19,13 +19,15 @@ use Rattle.field.proofs.Degrees.{Polynomial, polynomial}
 use Rattle.field.proofs.Irreducibility.{irreducible-to}
 use Rattle.field.proofs.Field.{times-zero-l, times-assoc, times-one-l, times-lt}
 use Rattle.field.proofs.Inverses.{inverse-exists, columns-ones, count-positive}
 use Rattle.matrix.specs.Numbers.{numbers}
-use Rattle.gates.specs.Gates.{bit}
-use Rattle.gates.proofs.Bits.{bit-own, bits-ones, bit-product}
+use Rattle.matrix.specs.Depths.{bit, onesInLine}
+use Rattle.matrix.proofs.Bits.{bit-own, bits-ones, bit-product}
+use Rattle.matrix.proofs.Tallies.{total-sum}
 
--- how many ones line b of the bit matrix of a has: column k is a times 2^k
-abbrev pub onesInLine : ℕ → ℕ → ℕ → ℕ
-onesInLine p a b = sum Naturals (degree p) (λ k. bit b (product p a (2 ^ k)))
+-- the ones of a line, as a sum
+pub line-sum : (p a b : ℕ) → onesInLine p a b ≡ sum Naturals (degree p) (λ k. bit b (product p a (2 ^ k)))
+unfolding onesInLine
+line-sum p a b = total-sum (degree p) (λ k. bit b (product p a (2 ^ k)))
 
 -- ---- sums of which nothing is left
 
@@ -69,7 +71,8 @@ module _ (p : ℕ) (h : Modulus p) where
   -- line by line they are as many as column by column
   pub lines-columns : (a : ℕ) → sum Naturals (degree p) (λ b. onesInLine p a b) ≡ onesInColumns p a (degree p)
   lines-columns a =
-      sum-swap Naturals naturals (degree p) (degree p) (λ b k. bit b (product p a (2 ^ k)))
+      sum-cong Naturals (degree p) _ _ (λ b l. line-sum p a b)
+      ∙ sum-swap Naturals naturals (degree p) (degree p) (λ b k. bit b (product p a (2 ^ k)))
       ∙ sum-cong Naturals (degree p) _ _ (λ k l. bits-ones (degree p) (product p a (2 ^ k)) (times-lt p (degree p) (poly .has) a (2 ^ k)))
       ∙ sym (columns-sum p a (degree p))
 
@@ -88,7 +91,7 @@ module _ (p : ℕ) (h : Modulus p) where
   line-none : (a b c : ℕ) → c < 2 ^ degree p → onesInLine p a b ≡ 0 → bit b (product p a c) ≡ 0
   line-none a b c l e =
       bit-product p (degree p) (poly .has) a c b l
-      ∙ xors-none p (degree p) _ (λ k m. ap (λ (x : ℕ). bit k c * x) (sum-none (degree p) _ e k m) ∙ mul-zero (bit k c))
+      ∙ xors-none p (degree p) _ (λ k m. ap (λ (x : ℕ). bit k c * x) (sum-none (degree p) _ (sym (line-sum p a b) ∙ e) k m) ∙ mul-zero (bit k c))
 
   -- a nonzero element has a one in every line
   pub line-positive : (a b : ℕ) → 0 < a → a < 2 ^ degree p → b < degree p → 0 < onesInLine p a b

@@ -1,0 +1,20 @@
+-- `matrix::figure::depth` meets its contract. Assumes nothing.
+use mathlib.Core.Path.{ap, _∙_}
+use Rattle.matrix.specs.Depths.{depthOf}
+use Rattle.matrix.specs.Steps.Figures.{depthOfOnes}
+use borrow.Author.Needs.{needs}
+use Rattle.matrix.proofs.figure.depth.Statement.{statement}
+use Rattle.matrix.proofs.figure.depth.Tie as tie
+
+greatest-requires : tie.Need-greatest-requires
+greatest-requires c κs = search needs
+
+depth-of-requires : tie.Need-depth-of-requires
+depth-of-requires c κs = search needs
+
+returns : tie.Need-returns
+unfolding depthOfOnes
+returns c = c .depth-of .ensures ∙ ap depthOf (c .before .greatest .ensures)
+
+pub depth-spec : {M : Type 1} → statement M
+depth-spec = tie.close (tie.spec greatest-requires depth-of-requires returns)
