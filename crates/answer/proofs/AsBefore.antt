@@ -1,6 +1,6 @@
 -- What was due before zeros cost no gates (request One), and what of it stayed: every answer to a search and to a survey, every refusal, and
--- the answer to every check of a matrix without zeros (`due-as-before`, `search-as-before`, `number-as-before`).
--- Assumes nothing.
+-- the answer to every check of a matrix without zeros (`due-as-before`, `search-as-before`, `number-as-before`). The counts alone are those of
+-- before: a search's row is that of today (request Four). Assumes nothing.
 use mathlib.Core.Path.{_≡_, refl, sym, ap, _∙_}
 use mathlib.Core.Logic.{_≢_}
 use mathlib.Core.Bool.{Bool, true, false, cond, not}

@@ -1,5 +1,5 @@
 -- What was due before there were gates (request Two), and what of it stayed: everything that is due to a text of another kind than 4
--- (`other-kinds-as-before`). A text of kind 4 in form was refused with 2 (`gates-before`). Assumes nothing.
+-- (`other-kinds-as-before`). A text of kind 4 in form was refused with 2 (`gates-before`). The other kinds are those of today. Assumes nothing.
 use mathlib.Core.Path.{_≡_, refl, sym, ap, _∙_}
 use mathlib.Core.Logic.{_≢_}
 use mathlib.Core.Bool.{true, not}
