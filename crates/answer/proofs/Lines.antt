@@ -121,6 +121,8 @@ depths-hold =
     and refl
     and refl
     and refl
+    and refl
+    and refl
     and (due-request 1 31 4 _ refl ∙ search-due 31 4 _ _ fifteen)
     and (due-request 1 31 4 _ refl ∙ search-due 31 4 _ _ eleven)
     and refl

@@ -112,13 +112,16 @@ searches =
     requests 1 19 4 (1 ∷ 2 ∷ 3 ∷ 4 ∷ 5 ∷ 6 ∷ 7 ∷ 8 ∷ 9 ∷ 10 ∷ 11 ∷ 12 ∷ 13 ∷ 14 ∷ 15 ∷ []) (answer 0 ((0 ∷ 6 ∷ 18 ∷ 72 ∷ []) ∷ (1 ∷ 4 ∷ 9 ∷ 13 ∷ []) ∷ [])) ∷
     []
 
--- depths (document 02, Four): over 19 element 2, whose lines and columns differ; numbers of ones; rows; searches over 31, order 4, where the depth
--- decides: all fifteen, of which 1 2 4 6 has the count of 1 2 13 15 and an earlier place, and eleven of them; one over 67 where the count decides
--- before the depth: 1 8 16 24 is shallower and earlier, but heavier
+-- depths (document 02, Four): over 19 element 2, whose lines and columns differ; numbers of ones; rows, among them two of one element over 7, where
+-- the first output bit alone is the deepest, or the last; searches over 31, order 4, where the depth decides: all fifteen, of which 1 2 4 6 has the
+-- count of 1 2 13 15 and an earlier place, and eleven of them; one over 67 where the count decides before the depth: 1 8 16 24 is shallower and
+-- earlier, but heavier
 unfoldable pub depthLines : List ReferenceLine
 depthLines =
     output-ones 19 2 (1 ∷ 2 ∷ 1 ∷ 1 ∷ []) ∷
     depths (0 ∷ 1 ∷ 2 ∷ 3 ∷ 4 ∷ 5 ∷ 8 ∷ 9 ∷ 64 ∷ 65 ∷ []) (0 ∷ 0 ∷ 1 ∷ 2 ∷ 2 ∷ 3 ∷ 3 ∷ 4 ∷ 6 ∷ 7 ∷ []) ∷
+    row-depths 7 1 (3 ∷ []) 1 ∷
+    row-depths 7 1 (2 ∷ []) 1 ∷
     row-depths 19 4 (1 ∷ 4 ∷ 9 ∷ 13 ∷ []) 3 ∷
     row-depths 31 4 (1 ∷ 2 ∷ 4 ∷ 6 ∷ []) 4 ∷
     row-depths 31 4 (1 ∷ 2 ∷ 13 ∷ 15 ∷ []) 3 ∷

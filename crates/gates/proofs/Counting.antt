@@ -4,26 +4,27 @@ use mathlib.Core.Path.{_≡_, refl, sym, ap, ap₂, _∙_}
 use mathlib.Core.Bool.{cond}
 use mathlib.Core.Logic.{⊎-elim}
 use mathlib.Core.List.{List, [], _∷_}
-use Prim.Native.Nat.{ℕ, zero, suc, _+_, _-_, _*_, _/_, _%_, _^_, _≤_, _<_, zero-le}
+use Prim.Native.Nat.{ℕ, zero, suc, _+_, _-_, _*_, _/_, _%_, _^_, _≤_, _<_}
 use native.Mathlib.Nat.{le-refl, zero-mul, suc-mul, eq-zero-or-pos}
 use native.Mathlib.Decide.{ℕ-discrete}
 use native.Mathlib.Omega.{arith}
-use borrow.Author.Tests.{eq-eqb, ne-eqb}
+use borrow.Author.Tests.{ne-eqb}
 use lib.Dec.{eqb}
 use lib.ListN.{length, length-append}
 use Rattle.algebra.specs.Matrix.{tabulate, sum, weight}
 use Rattle.algebra.proofs.Words.{oneUnless}
-use Rattle.algebra.proofs.Sums.{Naturals, naturals, sum-cong, sum-plus, sum-swap, sum-flat}
+use Rattle.algebra.proofs.Sums.{Naturals, naturals, sum-cong, sum-flat}
 use Rattle.algebra.proofs.Weights.{sum-le, weight-tabulate}
-use Rattle.field.specs.Polynomial.{Modulus, degree, product, xorCount}
+use Rattle.field.specs.Polynomial.{Modulus, degree, product}
 use Rattle.matrix.specs.Numbers.{numbers}
 use Rattle.matrix.specs.Counts.{elementCount, additionCount, rowCount, matrixCount}
 use Rattle.matrix.proofs.Tallies.{total-sum, total-rows, zero-line}
-use Rattle.matrix.specs.Depths.{bit, onesInLine, outputOnes}
+use Rattle.matrix.specs.Depths.{bit, outputOnes}
 use Rattle.gates.specs.Gates.{isInput, inputsOf, outputs, joining, gatesOf, gatesFrom, gatesOfMatrix}
 use Rattle.matrix.proofs.Bits.{at-bit}
 use Rattle.gates.proofs.Lists.{listSum, length-sum, tabulate-sum, passing-sum}
-use Rattle.matrix.proofs.BitMatrix.{line-sum, sum-none, lines-columns, line-positive, entry-ones}
+use Rattle.matrix.proofs.BitMatrix.{line-sum, sum-none}
+use Rattle.matrix.proofs.LineOnes.{output-sum, weight-ones, ones-total}
 
 -- ---- the gates of an output bit
 
@@ -59,33 +60,19 @@ unfolding sum
 sum-less zero f h = refl
 sum-less (suc k) f h = omega (arith, sum-less k f (λ i l. h i (omega arith)), h k (le-refl (suc k)))
 
--- a factor taken out
-add-mul : (a b c : ℕ) → (a + b) * c ≡ a * c + b * c
-add-mul a zero c = omega (arith, zero-mul c)
-add-mul a (suc b) c = omega (arith, add-mul a b c, suc-mul b c, suc-mul (a + b) c)
-
-sum-scaled : (n c : ℕ) (f : ℕ → ℕ) → sum Naturals n (λ i. f i * c) ≡ sum Naturals n f * c
-unfolding sum
-sum-scaled zero c f = sym (zero-mul c)
-sum-scaled (suc n) c f = ap (λ (s : ℕ). s + f n * c) (sum-scaled n c f) ∙ sym (add-mul (sum Naturals n f) (f n) c)
-
 -- ---- the inputs of an output bit
 
--- they are the ones of the line's entries
-pub inputs-count : (p n b : ℕ) (line : ℕ → ℕ) → length (inputsOf p n line b) ≡ sum Naturals n (λ j. onesInLine p (line j) b)
+-- they are the ones of the line's entries, which decide on the bit's depth
+pub inputs-ones : (p n b : ℕ) (line : ℕ → ℕ) → length (inputsOf p n line b) ≡ outputOnes p n line b
 unfolding inputsOf isInput
-inputs-count p n b line =
+inputs-ones p n b line =
     length-sum (inputsOf p n line b)
     ∙ passing-sum Naturals naturals (isInput p line b) (λ v. 1) (n * degree p)
     ∙ sum-cong Naturals (n * degree p) _ (λ v. bit b (product p (line (v / degree p)) (2 ^ (v % degree p))))
     (λ v l. at-bit (λ d. cond (eqb d 1) 1 0 ≡ d) refl refl b (product p (line (v / degree p)) (2 ^ (v % degree p))))
     ∙ sum-flat Naturals naturals (degree p) n (λ j k. bit b (product p (line j) (2 ^ k)))
     ∙ sum-cong Naturals n _ _ (λ j l. sym (line-sum p (line j) b))
-
--- so the ones that decide on an output bit's depth are the inputs that its gates join
-pub inputs-ones : (p n b : ℕ) (line : ℕ → ℕ) → length (inputsOf p n line b) ≡ outputOnes p n line b
-unfolding outputOnes
-inputs-ones p n b line = inputs-count p n b line ∙ sym (total-sum n (λ j. onesInLine p (line j) b))
+    ∙ sym (output-sum p n b line)
 
 -- ---- the gates of a line
 
@@ -98,25 +85,12 @@ module _ (p n : ℕ) (line : ℕ → ℕ) (h : Modulus p) (small : (j : ℕ) →
   w-sum = weight-tabulate (numbers p) n line
 
   -- each nonzero entry gives each bit an input
-  entry-input : (b j : ℕ) → b < degree p → j < n → oneUnless (eqb (line j) 0) ≤ onesInLine p (line j) b
-  entry-input b j k l = elim (ℕ-discrete (line j) 0) [
-    | yes e ↦ rw (eq-eqb (line j) 0 e) zero-le
-    | no e ↦ rw (ne-eqb (line j) 0 e) (line-positive p h (line j) b (omega arith) (small j l) k)
-  ]
-
   w-inputs : (b : ℕ) → b < degree p → w ≤ length (inputsOf p n line b)
-  w-inputs b k = rw (w-sum, inputs-count p n b line) (sum-le n _ _ (λ j l. entry-input b j k l))
+  w-inputs b k = rw (inputs-ones p n b line) (weight-ones p n line h small b k)
 
   -- all inputs together: the elements' counts, and m for each nonzero entry
   inputs-total : sum Naturals (degree p) (λ b. length (inputsOf p n line b)) ≡ elementCount p n line + w * degree p
-  unfolding elementCount
-  inputs-total =
-      sum-cong Naturals (degree p) _ _ (λ b l. inputs-count p n b line)
-      ∙ sum-swap Naturals naturals (degree p) n (λ b j. onesInLine p (line j) b)
-      ∙ sum-cong Naturals n _ _ (λ j l. lines-columns p h (line j) ∙ entry-ones p h (line j) (small j l))
-      ∙ sum-plus Naturals naturals n (λ j. xorCount p (line j)) (λ j. oneUnless (eqb (line j) 0) * degree p)
-      ∙ ap₂ _+_ (sym (total-sum n (λ j. xorCount p (line j)))) (sum-scaled n (degree p) (λ j. oneUnless (eqb (line j) 0)))
-      ∙ ap (λ (x : ℕ). elementCount p n line + x * degree p) (sym w-sum)
+  inputs-total = sum-cong Naturals (degree p) _ _ (λ b l. inputs-ones p n b line) ∙ ones-total p n line h small
 
   -- where some entry is not 0
   line-some : 0 < w → sum Naturals (degree p) (λ b. length (inputsOf p n line b) - 1) ≡ rowCount p n line

@@ -1,8 +1,9 @@
 -- The depth of a line. `depth-reaches`, `depth-least`: the depth of an output bit with t ones is the least d with 2^d at least t. More ones are
--- never shallower, so the greatest number of ones decides (`depth-greatest`), and a row is not shallower than its first entries
--- (`depth-front`). The places of the entries do not matter (`depth-permuted`, `depth-moved`); so every output of a Hadamard matrix has the depth
--- of the first (`hadamard-depth`). A depth is at most n·m (`lineDepth-le`), and at most 6 up to order 8 (`lineDepth-six`). Assumes nothing.
-use mathlib.Core.Path.{_≡_, refl, sym, ap, ap₂, subst, _∙_}
+-- never shallower, so the greatest number of ones decides (`depth-greatest`). The depth of a line is the greatest over its m output bits
+-- (`bit-not-deeper`, `lineDepth-least`). The places of the entries do not matter (`depth-permuted`, `depth-moved`); so every output of a Hadamard
+-- matrix has the depth of the first (`hadamard-depth`). A depth is at most n·m (`lineDepth-le`), and at most 6 up to order 8 (`lineDepth-six`).
+-- Assumes nothing.
+use mathlib.Core.Path.{_≡_, refl, sym, ap, ap₂, _∙_}
 use mathlib.Core.Logic.{⊎-elim}
 use mathlib.Core.Bool.{true≢false}
 use mathlib.Core.List.{List}
@@ -64,7 +65,7 @@ unfolding depthOf
 depth-le t = first-le t (λ d. leb t (2 ^ d))
 
 -- more ones are not shallower
-depth-mono : (s t : ℕ) → s ≤ t → depthOf s ≤ depthOf t
+pub depth-mono : (s t : ℕ) → s ≤ t → depthOf s ≤ depthOf t
 depth-mono s t l = depth-least s (depthOf t) (le-trans l (depth-reaches t))
 
 depth-max : (s t : ℕ) → depthOf (max s t) ≡ max (depthOf s) (depthOf t)
@@ -86,9 +87,6 @@ le-greatest zero f i l = let z : ⊥ = omega arith in absurd z
 le-greatest (suc n) f i l =
     ⊎-elim (λ (e : suc i ≡ suc n). let same : i ≡ n = omega arith in rw same (le-max-right (greatest n f) (f n)))
     (λ (h : suc i < suc n). le-trans (le-greatest n f i (omega arith)) (le-max-left (greatest n f) (f n))) (eq-or-lt-of-le l)
-
-greatest-mono : (n : ℕ) (f g : ℕ → ℕ) → ((i : ℕ) → i < n → f i ≤ g i) → greatest n f ≤ greatest n g
-greatest-mono n f g h = greatest-le n (greatest n g) f (λ i l. le-trans (h i l) (le-greatest n g i l))
 
 pub greatest-cong : (n : ℕ) (f g : ℕ → ℕ) → ((i : ℕ) → i < n → f i ≡ g i) → greatest n f ≡ greatest n g
 unfolding greatest
@@ -159,37 +157,34 @@ pub lineDepth-cong : (p n : ℕ) (row row′ : ℕ → ℕ) → ((j : ℕ) → j
 lineDepth-cong p n row row′ e = same-ones p n row row′ (λ b. output-cong p n b row row′ e)
 
 -- eight output bits are as good as m
+pub greatest-of-eight : (p n : ℕ) (line : ℕ → ℕ) → Modulus p → greatest 8 (outputOnes p n line) ≡ greatest (degree p) (outputOnes p n line)
+greatest-of-eight p n line h =
+    let most = polynomial p h .most in
+    ap (λ (k : ℕ). greatest k (outputOnes p n line)) (omega arith)
+    ∙ greatest-behind (degree p) (8 - degree p) (outputOnes p n line) (λ b l. output-behind p n b line h l)
+
 pub depth-of-eight : (p n : ℕ) (line : ℕ → ℕ) → Modulus p → depthOf (greatest 8 (outputOnes p n line)) ≡ lineDepth p n line
 unfolding lineDepth
-depth-of-eight p n line h =
-    let most = polynomial p h .most in
-    ap (λ (k : ℕ). depthOf (greatest k (outputOnes p n line))) (omega arith)
-    ∙ ap depthOf (greatest-behind (degree p) (8 - degree p) (outputOnes p n line) (λ b l. output-behind p n b line h l))
-    ∙ depth-greatest (degree p) (outputOnes p n line)
+depth-of-eight p n line h = ap depthOf (greatest-of-eight p n line h) ∙ depth-greatest (degree p) (outputOnes p n line)
 
--- a sum over more places is not smaller
-total-front : (k m : ℕ) (f : ℕ → ℕ) → total k f ≤ total (k + m) f
-unfolding total
-total-front k zero f = rw (add-zero k) (le-refl (total k f))
-total-front k (suc m) f = rw (add-suc k m) (omega (arith, total-front k m f))
+-- none of the m output bits is deeper
+pub bit-not-deeper : (p n : ℕ) (line : ℕ → ℕ) (b : ℕ) → b < degree p → depthOf (outputOnes p n line b) ≤ lineDepth p n line
+unfolding lineDepth
+bit-not-deeper p n line b l = le-greatest (degree p) (λ b. depthOf (outputOnes p n line b)) b l
 
--- a row is not shallower than its first entries
-pub depth-front : (p k n : ℕ) (row : ℕ → ℕ) → k ≤ n → lineDepth p k row ≤ lineDepth p n row
-unfolding lineDepth outputOnes
-depth-front p k n row l =
-    let all : k + (n - k) ≡ n = omega arith in
-    greatest-mono (degree p) _ _ (λ b m. depth-mono _ _ (subst (λ (e : ℕ). total k (λ j. onesInLine p (row j) b) ≤ total e (λ j. onesInLine p (row j) b)) all (total-front k (n - k) (λ j. onesInLine p (row j) b))))
+-- and no smaller number is as deep as all of them
+pub lineDepth-least : (p n : ℕ) (line : ℕ → ℕ) (d : ℕ) → ((b : ℕ) → b < degree p → depthOf (outputOnes p n line b) ≤ d) → lineDepth p n line ≤ d
+unfolding lineDepth
+lineDepth-least p n line d h = greatest-le (degree p) d (λ b. depthOf (outputOnes p n line b)) h
 
 -- a depth is at most n·m
 pub lineDepth-le : (p n : ℕ) (line : ℕ → ℕ) → lineDepth p n line ≤ degree p * n
-unfolding lineDepth
-lineDepth-le p n line = greatest-le (degree p) (degree p * n) _ (λ b l. le-trans (depth-le (outputOnes p n line b)) (output-most p n b line))
+lineDepth-le p n line = lineDepth-least p n line (degree p * n) (λ b l. le-trans (depth-le (outputOnes p n line b)) (output-most p n b line))
 
 -- and at most 6 up to order 8
 pub lineDepth-six : (p n : ℕ) (line : ℕ → ℕ) → Modulus p → n ≤ 8 → lineDepth p n line ≤ 6
-unfolding lineDepth
 lineDepth-six p n line h l =
-    greatest-le (degree p) 6 _ (λ b k. depth-least (outputOnes p n line b) 6 (le-trans (output-most p n b line) (mul-le-mul {n₂ = 8} {m₂ = 8} (polynomial p h .most) l)))
+    lineDepth-least p n line 6 (λ b k. depth-least (outputOnes p n line b) 6 (le-trans (output-most p n b line) (mul-le-mul {n₂ = 8} {m₂ = 8} (polynomial p h .most) l)))
 
 -- ---- the places of a row's elements
 

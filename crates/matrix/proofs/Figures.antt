@@ -12,7 +12,7 @@ use Rattle.field.specs.Polynomial.{Modulus, degree}
 use Rattle.field.proofs.Degrees.{polynomial}
 use Rattle.matrix.specs.declared.figure.Figure.{Figure}
 use Rattle.matrix.specs.Counts.{total, elementCount}
-use Rattle.matrix.specs.Depths.{onesInLine, outputOnes, depthOf, lineDepth}
+use Rattle.matrix.specs.Depths.{onesInLine, outputOnes, depthOf, greatest, lineDepth}
 use Rattle.matrix.specs.Steps.Figures.{onesTable, figureOf, lineFigure, figureSum, Addable, depthOfOnes}
 use Rattle.matrix.proofs.Filled.{getD-filledTo}
 use Rattle.matrix.proofs.Tallies.{xorCount-le, elementCount-le, elementCount-cong, elementCount-step, total-step}
@@ -79,7 +79,10 @@ figure-addable p n a row h l =
           );
     }
 
--- the depth
+-- the greatest number of ones, and the depth
+pub figure-greatest : (p n : ℕ) (line : ℕ → ℕ) → greatest 8 (λ b. getD (lineFigure p n line .ones) b 0) ≡ greatest 8 (outputOnes p n line)
+figure-greatest p n line = greatest-cong 8 _ _ (λ b l. line-at p n b line l)
+
 pub figure-depth : (p n : ℕ) (line : ℕ → ℕ) → Modulus p → depthOfOnes (lineFigure p n line .ones) ≡ lineDepth p n line
 unfolding depthOfOnes
-figure-depth p n line h = ap depthOf (greatest-cong 8 _ _ (λ b l. line-at p n b line l)) ∙ depth-of-eight p n line h
+figure-depth p n line h = ap depthOf (figure-greatest p n line) ∙ depth-of-eight p n line h

@@ -16,6 +16,7 @@ pub mod Tallies
 pub mod Bits
 pub mod BitMatrix
 pub mod Depths
+pub mod LineOnes
 pub mod Figures
 pub mod CountsBefore
 pub mod Elimination

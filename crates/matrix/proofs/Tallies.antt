@@ -6,7 +6,7 @@ use mathlib.Core.Logic.{_≢_}
 use mathlib.Core.Bool.{Bool, true, false, cond}
 use mathlib.Core.List.{List}
 use Prim.Native.Nat.{ℕ, zero, suc, _+_, _-_, _*_, _^_, _≤_, _<_, zero-le}
-use native.Mathlib.Nat.{le-refl, mul-suc, mul-le-mul, suc-mul, zero-mul, mul-zero, zero-add}
+use native.Mathlib.Nat.{le-refl, mul-suc, mul-le-mul, suc-mul, zero-mul, mul-zero, zero-add, add-zero, add-suc}
 use native.Mathlib.Numerals.{add-one}
 use native.Mathlib.Omega.{arith}
 use borrow.Author.Tests.{eq-eqb, ne-eqb}
@@ -38,6 +38,13 @@ pub total-le : (n k : ℕ) (f : ℕ → ℕ) → ((i : ℕ) → f i ≤ k) → t
 unfolding total
 total-le zero k f h = omega arith
 total-le (suc n) k f h = omega (arith, total-le n k f h, h n, mul-suc k n)
+
+-- each of k further numbers adds at least the least
+pub total-least : (f : ℕ → ℕ) (least d k : ℕ) → ((j : ℕ) → d ≤ j → j < d + k → least ≤ f j) → total d f + least * k ≤ total (d + k) f
+unfolding total
+total-least f least d zero h = rw (mul-zero, add-zero d) (omega arith)
+total-least f least d (suc k) h =
+    rw (add-suc, mul-suc) (omega (arith, total-least f least d k (λ j a b. h j a (omega arith)), h (d + k) (omega arith) (omega arith)))
 
 -- sums that agree below n
 pub total-cong : (n : ℕ) (f g : ℕ → ℕ) → ((i : ℕ) → i < n → f i ≡ g i) → total n f ≡ total n g
@@ -150,7 +157,7 @@ module _ (p n : ℕ) (σ ρ : ℕ → ℕ) (v : Inverse n σ ρ) where
 
 -- ---- Hadamard matrices
 
-total-same : (n c : ℕ) → total n (λ i. c) ≡ n * c
+pub total-same : (n c : ℕ) → total n (λ i. c) ≡ n * c
 unfolding total
 total-same zero c = sym (zero-mul c)
 total-same (suc n) c = omega (arith, total-same n c, suc-mul n c)
@@ -174,7 +181,7 @@ module _ (p k : ℕ) (row : List ℕ) where
 -- ---- zeros
 
 -- a line without zeros: w is n
-weight-full : (p n : ℕ) (line : ℕ → ℕ) → ((j : ℕ) → j < n → line j ≢ 0) → weight (numbers p) (tabulate n line) ≡ n
+pub weight-full : (p n : ℕ) (line : ℕ → ℕ) → ((j : ℕ) → j < n → line j ≢ 0) → weight (numbers p) (tabulate n line) ≡ n
 weight-full p n line h =
     weight-tabulate (numbers p) n line
     ∙ sum-cong Naturals n (λ j. oneUnless (eqb (line j) 0)) (λ j. 1) (λ j l. ap oneUnless (ne-eqb (line j) 0 (h j l)))

@@ -1,4 +1,4 @@
--- The depth of a circuit that adds up the ones of output bits (document 02, Four). Assumes nothing.
+-- The depth of a circuit that adds up the ones of output bits (document 02, Four). To be believed. Assumes nothing.
 use Prim.Native.Nat.{ℕ, zero, suc, _/_, _%_, _^_, max}
 use lib.Dec.{leb}
 use Rattle.field.specs.Polynomial.{degree, product, firstBelow}

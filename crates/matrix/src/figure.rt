@@ -7,7 +7,7 @@ ghost use lib.ListN.{getD};
 ghost use Rattle.field.specs.Polynomial.{Modulus, degree, xorCount};
 ghost use Rattle.matrix.specs.Numbers.{WordsInField};
 ghost use Rattle.matrix.specs.Depths.{onesInLine, depthOf, greatest, lineDepth};
-ghost use Rattle.matrix.specs.Steps.Figures.{onesTable, CountsOf, figureOf, lineFigure, figureSum, Addable, depthOfOnes};
+ghost use Rattle.matrix.specs.Steps.Figures.{onesTable, CountsOf, figureOf, lineFigure, figureSum, Addable, depthOfOnes, averageOnes, leastDepth};
 
 // Of an element, or the sum over a row: the count, and the ones for each output bit, 0 behind the degree.
 pub struct Figure {
@@ -101,6 +101,7 @@ fn line_figure(p: u16, table: &[u8; 2048], counts: &[u8; 256], line: [u8; 8], n:
     figure
 }
 
+// The larger of two numbers.
 fn larger(a: u8, b: u8) -> u8
     ensures { λ r. ⌜ r ≡ max a b ⌝ }
 {
@@ -121,12 +122,12 @@ fn greatest(ones: [u8; 8]) -> u8
 }
 
 // The depth of an output bit with t ones in its line of bits: the least d with 2^d at least t.
-fn depth_of(t: u8) -> u8
+fn depth_of(t: u16) -> u8
     ensures { λ r. ⌜ r ≡ depthOf t ⌝ }
 {
     let mut d: u8 = 0;
-    let mut reached: u16 = 1;
-    while reached < t as u16 {
+    let mut reached: u32 = 1;
+    while reached < t as u32 {
         reached <<= 1;
         d += 1;
     }
@@ -137,7 +138,7 @@ fn depth_of(t: u8) -> u8
 fn depth(ones: [u8; 8]) -> u8
     ensures { λ r. ⌜ r ≡ depthOfOnes ones ⌝ }
 {
-    depth_of(greatest(ones))
+    depth_of(greatest(ones) as u16)
 }
 
 // The depth of a line of n entries whose counts are known: the greatest over the bits of its output.
@@ -147,4 +148,32 @@ pub fn line_depth(p: u16, table: &[u8; 2048], counts: &[u8; 256], line: [u8; 8],
 {
     let ones = line_figure(p, table, counts, line, n).ones;
     depth(ones)
+}
+
+// The ones that some output bit of n nonzero entries with this count has at least: no fewer than the average.
+fn average_ones(p: u16, n: usize, count: u32) -> u16
+    requires { ⌜ Modulus p × (n ≤ 8) × (count ≤ 4095) ⌝ }
+    ensures { λ r. ⌜ r ≡ averageOnes p n count ⌝ }
+{
+    let m = field::degree(p) as u32;
+    (n as u32 + (count + m - 1) / m) as u16
+}
+
+// The depth that n nonzero entries with this count have at least, of which the first k are known: each of the others adds a one to
+// every output bit.
+pub fn least_depth(
+    p: u16,
+    table: &[u8; 2048],
+    counts: &[u8; 256],
+    line: [u8; 8],
+    k: usize,
+    n: usize,
+    count: u32,
+) -> u8
+    requires { ⌜ Modulus p × (k ≤ n) × (n ≤ 8) × (count ≤ 4095) × WordsInField p k line × CountsOf p k (now counts) line × (now table ≡ onesTable p) ⌝ }
+    ensures { λ r. ⌜ r ≡ leastDepth p n (λ j. getD line j 0) k count ⌝ }
+{
+    let ones = line_figure(p, table, counts, line, k).ones;
+    let first = greatest(ones) as u16 + (n - k) as u16;
+    larger(depth_of(first), depth_of(average_ones(p, n, count)))
 }

@@ -20,7 +20,8 @@ use Rattle.matrix.proofs.Residues.{lift, lift-number, regular-carried}
 use Rattle.matrix.proofs.Rows.{involution-row-sum, row-sum-involution, equal-entries-not-mds, half-is-enough, moved-row-mds, moved-row-involution}
 use Rattle.matrix.proofs.Planes.{nonzero-entry}
 use Rattle.matrix.proofs.Tallies.{elementCount-moved}
-use Rattle.matrix.proofs.Depths.{depth-moved}
+use Rattle.matrix.specs.Depths.{outputOnes, depthOf}
+use Rattle.matrix.proofs.Depths.{bit-not-deeper, lineDepth-least, depth-moved}
 use Rattle.search.specs.Lightest.{ascending, lightest, rowsOver}
 use Rattle.search.specs.Steps.IndexMaps.{Move, from, moves, moved, canonical}
 use Rattle.search.specs.Shape.{rowMatrix, isGood, hadamardShape}
@@ -129,6 +130,18 @@ pub regular-same : (p n : ℕ) → Modulus p → (f g : ℕ → ℕ → ℕ) →
 regular-same p n h f g below same least above most =
     regular-carried p h n f (λ i j. lift p (f i j)) (λ i j a b. lift-number p (f i j) (below i j a b)) least above most
     ∙ sym (regular-carried p h n g (λ i j. lift p (f i j)) (λ i j a b. lift-number p (f i j) (below i j a b) ∙ same i j a b) least above most)
+
+-- ---- the depth of a row
+
+-- it is the greatest over the m bits of the first output of its matrix: none of them is deeper
+pub row-bit-not-deeper : (p n : ℕ) (row : List ℕ) (b : ℕ) → b < degree p → depthOf (outputOnes p n (hadamard (numbers p) row 0) b) ≤ depthOfRow p n row
+unfolding depthOfRow hadamard
+row-bit-not-deeper p n row b l = bit-not-deeper p n (λ j. getD row j 0) b l
+
+-- and no smaller number is as deep as all of them
+pub row-depth-least : (p n : ℕ) (row : List ℕ) (d : ℕ) → ((b : ℕ) → b < degree p → depthOf (outputOnes p n (hadamard (numbers p) row 0) b) ≤ d) → depthOfRow p n row ≤ d
+unfolding depthOfRow hadamard
+row-depth-least p n row d h = lineDepth-least p n (λ j. getD row j 0) d h
 
 -- ---- the key
 

@@ -32,12 +32,12 @@ compare-pairs a d b e =
     (λ (m : a < b). inl (inl m)) (eq-or-lt-of-le l))
     (λ (l : b < a). inr (inl l)) (le-or-lt a b)
 
--- less than a pair is less than one with larger numbers
-pub pair-more : {a d b e b′ e′ : ℕ} → LessOrSame a d b e → b ≤ b′ → e ≤ e′ → LessOrSame a d b′ e′
+-- less than a pair is less than one whose first number is larger, or the same and the second not smaller
+pub pair-more : {a d b e b′ e′ : ℕ} → LessOrSame a d b e → b ≤ b′ → (b ≡ b′ → e ≤ e′) → LessOrSame a d b′ e′
 pair-more {a} {d} {b} {e} {b′} {e′} h l m =
     ⊎-elim (λ (k : a < b). inl (omega arith))
     (λ (q : (a ≡ b) × (d ≤ e)).
-    ⊎-elim (λ (s : b ≡ b′). inr (q .0 ∙ s, omega (arith, q .1))) (λ (s : b < b′). inl (omega (arith, q .0))) (eq-or-lt-of-le l)) h
+    ⊎-elim (λ (s : b ≡ b′). inr (q .0 ∙ s, omega (arith, q .1, m s))) (λ (s : b < b′). inl (omega (arith, q .0))) (eq-or-lt-of-le l)) h
 
 -- where the second numbers are below k, the first times k and the second compare as the two do
 module _ (k a d b e : ℕ) (below : d < k) where

@@ -14,20 +14,22 @@ use lib.ListN.{length, getD, take, set, replicate, length-append, length-set, ta
 use lib.Seq.{take-at, take-length, take-take, take-suc-set, take-set-le, length-take-le, getD-take, getD-set-same, getD-set-other, drop-set-lt}
 use lib.Pow.{pow-mono}
 use borrow.Author.Tests.{leb-true, leb-false, ltb-true, ltb-false, lt-ltb, le-ltb, eq-eqb, ne-eqb, not-true, not-false}
+use Rattle.algebra.proofs.Involution.{and-left, and-right}
 use Rattle.field.specs.Polynomial.{xorCount}
 use Rattle.field.proofs.Degrees.{polynomial}
 use Rattle.matrix.specs.Numbers.{WordsInField}
 use Rattle.matrix.specs.Counts.{elementCount}
 use Rattle.matrix.specs.Depths.{lineDepth}
-use Rattle.matrix.specs.Steps.Figures.{CountsOf}
+use Rattle.matrix.specs.Steps.Figures.{CountsOf, leastDepth}
 use Rattle.matrix.proofs.Squares.{each-every}
 use Rattle.matrix.proofs.Tallies.{xorCount-le, elementCount-le, elementCount-cong, elementCount-step}
 use Rattle.matrix.proofs.Depths.{lineDepth-cong}
+use Rattle.matrix.proofs.LineOnes.{leastDepth-whole, leastDepth-cong}
 use Rattle.search.specs.declared.Best.{Best as Kept}
 use Rattle.search.specs.Lightest.{Best, nothing, found, lighter, keep, keepAll, member}
 use Rattle.search.specs.Shape.{isGood}
 use Rattle.search.specs.Answer.{sumOf, depthOfRow, keyOf}
-use Rattle.search.specs.Steps.Prefix.{kept, Cuts, passes, AllStand, tried, bestAs, isHeavy, Reached, Whole, AtPrefix, NextLetter}
+use Rattle.search.specs.Steps.Prefix.{kept, Cuts, passes, AllStand, tried, bestAs, isHeavier, isHeavy, Reached, Whole, AtPrefix, NextLetter}
 use Rattle.search.specs.Steps.Walk.{completions, branches}
 use Rattle.search.proofs.LetterCounts.{table-knows, table-count, least-le, least-most}
 use Rattle.search.proofs.Rows.{member-mem, mem-words, getD-mem}
@@ -130,6 +132,11 @@ module _ (b : Kept) where
     unfolding isHeavy
     heavy-depths e q = rw (e, eq-eqb (b .count) count q, le-ltb (b .count) count (omega arith)) refl
 
+    -- heavier is heavy
+    heavier-heavy : isHeavier b count ≡ true → isHeavy b count depth ≡ true
+    unfolding isHeavier isHeavy
+    heavier-heavy e = rw (and-left (b .found) (ltb (b .count) count) e, and-right (b .found) (ltb (b .count) count) e) refl
+
   module _ (p n : ℕ) (holds : b ≡ kept p n (bestAs n b)) where
     found-sum : b .found ≡ true → sumOf p n (take n (b .row)) ≡ b .count
     unfolding kept
@@ -155,16 +162,16 @@ module _ (b : Kept) where
         )
         go false q = absurd (true≢false (sym e ∙ heavy-none count depth q))
 
-    -- not too heavy: a row with this sum and this depth is lighter, or as heavy and shallower
-    heavy-false : (r : List ℕ) → isHeavy b (sumOf p n r) (depthOfRow p n r) ≡ false → lighter (keyOf p n) (bestAs n b) r ≡ true
+    -- not too heavy: a row with this sum that is not deeper is lighter, or as heavy and shallower
+    heavy-false : (r : List ℕ) (depth : ℕ) → depthOfRow p n r ≤ depth → isHeavy b (sumOf p n r) depth ≡ false → lighter (keyOf p n) (bestAs n b) r ≡ true
     unfolding lighter
-    heavy-false r e = go (b .found) refl
+    heavy-false r depth l e = go (b .found) refl
       where
         less : b .found ≡ true → Less (sumOf p n r) (depthOfRow p n r) (b .count) (b .depth)
         less f = elim (ℕ-discrete (b .count) (sumOf p n r)) [
-          | yes s ↦ inr (sym s, leb-false (b .depth) (depthOfRow p n r) (sym (heavy-depths (sumOf p n r) (depthOfRow p n r) f s) ∙ e))
+          | yes s ↦ inr (sym s, omega (arith, l, leb-false (b .depth) depth (sym (heavy-depths (sumOf p n r) depth f s) ∙ e)))
           | no d ↦
-              let least = ltb-false (b .count) (sumOf p n r) (sym (heavy-counts (sumOf p n r) (depthOfRow p n r) f d) ∙ e) in
+              let least = ltb-false (b .count) (sumOf p n r) (sym (heavy-counts (sumOf p n r) depth f d) ∙ e) in
               inl (⊎-elim (λ q. absurd (d (sym q))) (λ l. l) (eq-or-lt-of-le least))
         ]
 
@@ -291,13 +298,24 @@ module _ {cuts : Cuts} {p n : ℕ} {letters counts : List ℕ} {least level : �
     next-at j l = ap (λ (x : List ℕ). getD x j 0) (sym prefix-next) ∙ getD-take (level + 1) longer j 0 l
 
     -- the rows behind them are too heavy
-    pub branch-heavy : isHeavy b (count + getD counts a 0 + least * (n - (level + 1))) (lineDepth p (level + 1) (λ j. getD longer j 0)) ≡ true
-        → b ≡ kept p n kept-after
+    -- what they count at least
+    abbrev bound : ℕ
+    bound = count + getD counts a 0 + least * (n - (level + 1))
+
+    -- and how deep those are at least that count no more
+    abbrev deep : ℕ
+    deep = leastDepth p n (λ j. getD longer j 0) (level + 1) bound
+
+    pub branch-heavy : isHeavy b bound deep ≡ true → b ≡ kept p n kept-after
     branch-heavy e =
-        let (is, le) = heavy-true b p n (at .holds) (count + getD counts a 0 + least * (n - (level + 1))) (lineDepth p (level + 1) (λ j. getD longer j 0)) e in
+        let (is, le) = heavy-true b p n (at .holds) bound deep e in
         stays (skip-bound cuts p n letters (take level row) a (n - (level + 1)) (at .reached .over) (nx .letter) places-left
-        (bestAs n b) (take n (b .row)) least letter-least is
-        (rw (prefix-long, elementCount-cong p (level + 1) _ _ next-at, lineDepth-cong p (level + 1) _ _ next-at, ← count-next) le))
+        (at .brief .modulus) (at .brief .below) (at .brief .positive) (bestAs n b) (take n (b .row)) least letter-least is bound
+        (rw (prefix-long, elementCount-cong p (level + 1) _ _ next-at, ← count-next) refl)
+        (rw (prefix-long, leastDepth-cong p n (level + 1) bound _ _ next-at) le))
+
+    pub branch-heavier : isHeavier b bound ≡ true → b ≡ kept p n kept-after
+    branch-heavier e = branch-heavy (heavier-heavy b bound deep e)
 
     module _ (may : cuts .mayStand (take level row) a ≡ true) where
       stands-next : AllStand cuts (level + 1) longer
@@ -358,20 +376,20 @@ module _ {cuts : Cuts} {p n : ℕ} {letters counts : List ℕ} {least level : �
             (ap₂ (cuts .mayEnd) (take-take (n - 1) n longer (omega arith)) (getD-take n longer (n - 1) 0 (omega arith)) ∙ whole-next .ends)
 
         -- where it is lighter, or as heavy and shallower, it is kept if it is good
-        pub branch-whole : isHeavy b (count + getD counts a 0 + least * (n - (level + 1))) (lineDepth p (level + 1) (λ j. getD longer j 0)) ≡ false
+        pub branch-whole : isHeavy b bound deep ≡ false
             → cond (isGood (cuts .shape) p n (take n longer)) (found (take n longer)) (bestAs n b) ≡ kept-after
         branch-whole e =
             let none : n - (level + 1) ≡ 0 = omega arith in
             let same : take n longer ≡ take level row ++ a ∷ [] = ap (λ (m : ℕ). take m longer) (sym all) ∙ prefix-next in
-            let sum : sumOf p n (take n longer) ≡ count + getD counts a 0 + least * (n - (level + 1)) = omega (arith, ap (λ (m : ℕ). least * m) none, whole-next .counted) in
-            let light = ap₂ (isHeavy b) sum depth-whole ∙ e in
-            sym (keep-tried cuts p n (bestAs n b) (take n longer) passes-next (heavy-false b p n (at .holds) (take n longer) light))
+            let sum : sumOf p n (take n longer) ≡ bound = omega (arith, ap (λ (m : ℕ). least * m) none, whole-next .counted) in
+            let light = ap (λ (s : ℕ). isHeavy b s deep) sum ∙ e in
+            sym (keep-tried cuts p n (bestAs n b) (take n longer) passes-next (heavy-false b p n (at .holds) (take n longer) deep depth-whole light))
             ∙ ap (keep (tried cuts p n) (keyOf p n) (bestAs n b)) same
             ∙ sym (ap (λ (m : ℕ). keepAll (tried cuts p n) (keyOf p n) (bestAs n b) (completions letters (take level row ++ a ∷ []) m)) none
             ∙ extend-none (tried cuts p n) (keyOf p n) letters (take level row ++ a ∷ []) (bestAs n b))
           where
-            depth-whole : depthOfRow p n (take n longer) ≡ lineDepth p (level + 1) (λ j. getD longer j 0)
-            depth-whole = unfold depthOfRow in (depth-take p n longer) ∙ ap (λ (m : ℕ). lineDepth p m (λ j. getD longer j 0)) (sym all)
+            depth-whole : depthOfRow p n (take n longer) ≤ deep
+            depth-whole = unfold depthOfRow in (rw (depth-take p n longer, all) (leastDepth-whole p n _ (λ j. getD longer j 0) (at .brief .modulus)))
 
 -- ---- all letters behind the prefix
 

@@ -5,20 +5,20 @@ use mathlib.Core.Path.{_≡_, refl, sym, ap, ap₂, subst, _∙_}
 use mathlib.Core.Logic.{⊎-elim}
 use mathlib.Core.Bool.{Bool, true, false, true≢false}
 use mathlib.Core.List.{List, [], _∷_, _++_, List·Memᴰ, List·Memᴰ·head, List·Memᴰ·tail, List·Memᴰ·not-nil, List·Memᴰ·cases-cons, List·Memᴰ·append-cases, List·Memᴰ·eq-of-singleton, Memᴰ·cast}
-use Prim.Native.Nat.{ℕ, zero, suc, _+_, _-_, _*_, _≤_, _<_}
-use native.Mathlib.Nat.{le-refl, mul-suc, mul-zero, add-zero, add-suc}
+use Prim.Native.Nat.{ℕ, _+_, _-_, _*_, _^_, _≤_, _<_}
+use native.Mathlib.Nat.{le-refl}
 use native.Mathlib.Omega.{arith}
 use lib.ListN.{length, getD, take, length-append, List·getD-append}
 use lib.Seq.{append-snoc, take-append-seam, take-take, getD-append-seam, getD-take}
 use borrow.Author.Tests.{le-ltb}
 use Rattle.algebra.proofs.Involution.{and-left, and-right}
-use Rattle.field.specs.Polynomial.{xorCount}
-use Rattle.matrix.specs.Counts.{total, elementCount}
+use Rattle.field.specs.Polynomial.{Modulus, degree, xorCount}
+use Rattle.matrix.specs.Counts.{elementCount}
 use Rattle.field.specs.Steps.{everyBelow}
 use Rattle.matrix.proofs.Squares.{every-each}
-use Rattle.matrix.specs.Depths.{lineDepth}
-use Rattle.matrix.proofs.Tallies.{elementCount-cong}
-use Rattle.matrix.proofs.Depths.{lineDepth-cong, depth-front}
+use Rattle.matrix.specs.Steps.Figures.{leastDepth}
+use Rattle.matrix.proofs.Tallies.{total-least, elementCount-cong}
+use Rattle.matrix.proofs.LineOnes.{leastDepth-le, leastDepth-cong}
 use Rattle.search.specs.Lightest.{Best, found, lighter, keep, keepAll, member}
 use Rattle.search.specs.Shape.{isGood}
 use Rattle.search.specs.Answer.{sumOf, depthOfRow, keyOf}
@@ -67,13 +67,7 @@ module _ (good : List ℕ → Bool) (key : List ℕ → ℕ) where
 
 -- ---- sums
 
--- each of k further numbers adds at least the least
-total-least : (f : ℕ → ℕ) (least d k : ℕ) → ((j : ℕ) → d ≤ j → j < d + k → least ≤ f j) → total d f + least * k ≤ total (d + k) f
-unfolding total
-total-least f least d zero h = rw (mul-zero, add-zero d) (omega arith)
-total-least f least d (suc k) h =
-    rw (add-suc, mul-suc) (omega (arith, total-least f least d k (λ j a b. h j a (omega arith)), h (d + k) (omega arith) (omega arith)))
-
+-- each of k further elements counts at least the least
 element-least : (p least : ℕ) (row : ℕ → ℕ) (d k : ℕ) → ((j : ℕ) → d ≤ j → j < d + k → least ≤ xorCount p (row j))
     → elementCount p d row + least * k ≤ elementCount p (d + k) row
 unfolding elementCount
@@ -141,20 +135,29 @@ module _ (cuts : Cuts) (p n : ℕ) (letters q : List ℕ) (a k : ℕ) (over : (b
       let end = ap (λ (m : ℕ). elementCount p m (λ j. getD r j 0)) whole in
       omega arith
 
-  -- and how deep it is at least
-  deep-row : (r : List ℕ) → List·Memᴰ r (completions letters (q ++ a ∷ []) k)
-      → lineDepth p (length q + 1) (λ j. getD (q ++ a ∷ []) j 0) ≤ depthOfRow p n r
-  unfolding depthOfRow
-  deep-row r i =
-      let front = depth-front p (length q + 1) n (λ j. getD r j 0) (omega arith) in
-      omega (arith, lineDepth-cong p (length q + 1) _ (λ j. getD r j 0) (front-at r i))
+  -- and how deep it is at least, where the letters are nonzero elements
+  deep-row : Modulus p → ((b : ℕ) → List·Memᴰ b letters → b < 2 ^ degree p) → ((b : ℕ) → List·Memᴰ b letters → 0 < b)
+      → (r : List ℕ) → List·Memᴰ r (completions letters (q ++ a ∷ []) k)
+      → leastDepth p n (λ j. getD (q ++ a ∷ []) j 0) (length q + 1) (sumOf p n r) ≤ depthOfRow p n r
+  unfolding sumOf depthOfRow
+  deep-row field below positive r i =
+      let (long, front, here, in-letters) = row-of r i in
+      let entry : (j : ℕ) → j < n → List·Memᴰ (getD r j 0) letters = λ j l. in-letters (getD r j 0) (getD-mem r j 0 (omega arith)) in
+      rw (leastDepth-cong p n (length q + 1) (elementCount p n (λ j. getD r j 0)) _ (λ j. getD r j 0) (front-at r i))
+      (leastDepth-le p n (λ j. getD r j 0) field (λ j l. below _ (entry j l)) (λ j l. positive _ (entry j l)) (length q + 1) (omega arith))
 
   -- every row behind it is heavier than the row kept, or as heavy and not shallower
-  pub skip-bound : (best : Best) (b : List ℕ) (least : ℕ) → ((b : ℕ) → List·Memᴰ b letters → least ≤ xorCount p b) → best ≡ found b
-      → LessOrSame (sumOf p n b) (depthOfRow p n b) (elementCount p (length q + 1) (λ j. getD (q ++ a ∷ []) j 0) + least * k) (lineDepth p (length q + 1) (λ j. getD (q ++ a ∷ []) j 0))
+  pub skip-bound : Modulus p → ((b : ℕ) → List·Memᴰ b letters → b < 2 ^ degree p) → ((b : ℕ) → List·Memᴰ b letters → 0 < b)
+      → (best : Best) (b : List ℕ) (least : ℕ) → ((b : ℕ) → List·Memᴰ b letters → least ≤ xorCount p b) → best ≡ found b → (bound : ℕ)
+      → bound ≡ elementCount p (length q + 1) (λ j. getD (q ++ a ∷ []) j 0) + least * k
+      → LessOrSame (sumOf p n b) (depthOfRow p n b) bound (leastDepth p n (λ j. getD (q ++ a ∷ []) j 0) (length q + 1) bound)
       → keepAll (tried cuts p n) (keyOf p n) best (completions letters (q ++ a ∷ []) k) ≡ best
-  skip-bound best b least low e l =
-      skip (tried cuts p n) (keyOf p n) best _ λ r i g. (b, e, key-le p n b r (pair-more l (heavy-row least low r i) (deep-row r i)))
+  skip-bound field below positive best b least low e bound is l =
+      skip (tried cuts p n) (keyOf p n) best _ λ r i g. (
+        b,
+        e,
+        key-le p n b r (pair-more l (omega (arith, heavy-row least low r i)) (λ (same : bound ≡ sumOf p n r). rw same (deep-row field below positive r i))),
+      )
 
 -- ---- the last letter
 

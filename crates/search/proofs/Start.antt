@@ -19,13 +19,13 @@ use Rattle.search.specs.declared.Best.{Best as Kept}
 use Rattle.search.specs.declared.letters.Letters.{Letters}
 use Rattle.search.specs.Lightest.{Best, nothing, found, keepAll, lightest, member, ascending}
 use Rattle.search.specs.Shape.{Shape, isGood}
-use Rattle.search.specs.Answer.{someTooLarge, keyOf, lightestRow}
+use Rattle.search.specs.Answer.{someTooLarge, someBad, keyOf, lightestRow}
 use Rattle.search.specs.Steps.Prefix.{kept, Cuts, bestAs, tried, AtPrefix}
 use Rattle.search.specs.Steps.Letters.{countIn, countTable, known, listed, leastCount}
 use Rattle.search.specs.Steps.Walk.{completions}
 use Rattle.search.proofs.Rows.{member-mem, mem-ascending, mem-rows, sorted-rows, getD-mem}
 use Rattle.search.proofs.Lightest.{row-sorted}
-use Rattle.search.proofs.LetterCounts.{member-fits, known-ascending, listed-take}
+use Rattle.search.proofs.LetterCounts.{member-fits, member-nonzero, known-ascending, listed-take}
 use Rattle.search.proofs.Walk.{extend-all}
 use Rattle.search.proofs.Prefixes.{Long}
 
@@ -40,7 +40,7 @@ zeros n most =
     ap (drop n) (sym (replicate-append-replicate n (8 - n) 0 ∙ ap (λ (m : ℕ). replicate m 0) all))
     ∙ drop-at (replicate n 0) (replicate (8 - n) 0) n (length-replicate n 0)
 
-module _ (p n : ℕ) (h : Modulus p) (cs : List ℕ) (fits : someTooLarge p cs ≡ false) where
+module _ (p n : ℕ) (h : Modulus p) (cs : List ℕ) (fits : someTooLarge p cs ≡ false) (fair : someBad cs ≡ false) where
   -- the candidates, ascending
   abbrev letters : List ℕ
   letters = ascending (2 ^ degree p) cs
@@ -75,6 +75,7 @@ module _ (p n : ℕ) (h : Modulus p) (cs : List ℕ) (fits : someTooLarge p cs �
                 order = order;
                 most = most;
                 below = λ a m. mem-ascending (2 ^ degree p) cs a .0 (subst (List·Memᴰ a) letters-are m) .1;
+                positive = λ a m. let some = member-nonzero cs fair a (mem-ascending (2 ^ degree p) cs a .0 (subst (List·Memᴰ a) letters-are m) .0) in omega arith;
                 table = table ∙ table-same ∙ ap (countTable p) (sym letters-are);
                 lowest = lowest;
               };

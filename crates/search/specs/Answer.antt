@@ -1,4 +1,4 @@
--- The search over the candidates of a brief, in the words of document 01: how rows are compared, what the call answers, and what
+-- The search over the candidates of a brief, in the words of documents 01 and 02: how rows are compared, what the call answers, and what
 -- the struct of the code says. Assumes nothing.
 use mathlib.Core.Bool.{Bool, true, false, not, _&&_, _||_}
 use mathlib.Core.List.{List, [], _∷_, _++_}

@@ -9,7 +9,7 @@ ghost use Rattle.refusal.specs.Refusals.{numberOf, fault, answer, answerAfter};
 ghost use Rattle.field.specs.Polynomial.{Modulus};
 ghost use Rattle.matrix.specs.Numbers.{WordsInField};
 ghost use Rattle.search.specs.Shape.{hadamardShape};
-ghost use Rattle.search.specs.Answer.{someTooLarge, lightestRow, isNone, noRow, rowFound, searchAnswer, saysSearch};
+ghost use Rattle.search.specs.Answer.{someTooLarge, someBad, lightestRow, isNone, noRow, rowFound, searchAnswer, saysSearch};
 ghost use Rattle.search.specs.Steps.Prefix.{kept, bestAs};
 ghost use Rattle.search.specs.Steps.Hadamard.{SearchOrder};
 
@@ -33,9 +33,9 @@ pub struct SearchResult {
     pub row: [u8; 8],
 }
 
-// The lightest row over the candidates.
+// The lightest row over the candidates, which are nonzero elements.
 fn lightest_row(p: u16, n: usize, candidates: &[u32]) -> Best
-    requires { ⌜ Modulus p × SearchOrder n × (someTooLarge p (now candidates) ≡ false) ⌝ }
+    requires { ⌜ Modulus p × SearchOrder n × (someTooLarge p (now candidates) ≡ false) × (someBad (now candidates) ≡ false) ⌝ }
     ensures { λ r. ⌜ r ≡ kept p n (lightestRow hadamardShape p n (now (candidates .entry))) ⌝ }
 {
     let counts = letters::count_table(p, candidates);

@@ -1,37 +1,43 @@
 // The walk over the rows, entry by entry: each prefix is extended by the letters that can still lead to a lighter row.
 
 ghost use mathlib.Core.Path.{_≡_};
-ghost use mathlib.Core.Bool.{true, false, cond};
+ghost use mathlib.Core.Bool.{true, cond};
 ghost use mathlib.Core.List.{_++_, _∷_, []};
-ghost use Prim.Native.Nat.{_+_, _-_, _*_, _<_};
-ghost use lib.ListN.{getD, take, set};
+ghost use Prim.Native.Nat.{_+_, _-_, _≤_};
+ghost use lib.ListN.{getD, take};
 ghost use Rattle.field.specs.Polynomial.{Modulus, Products};
 ghost use Rattle.matrix.specs.Numbers.{WordsInField};
-ghost use Rattle.matrix.specs.Depths.{lineDepth};
-ghost use Rattle.matrix.specs.Steps.Figures.{onesTable, CountsOf};
+ghost use Rattle.matrix.specs.Steps.Figures.{onesTable, CountsOf, leastDepth};
 ghost use Rattle.search.specs.Lightest.{found, keepAll};
 ghost use Rattle.search.specs.Shape.{hadamardShape, isGood};
 ghost use Rattle.search.specs.Answer.{keyOf};
-ghost use Rattle.search.specs.Steps.Prefix.{kept, bestAs, isHeavy, tried, Whole, AtPrefix, NextLetter};
+ghost use Rattle.search.specs.Steps.Prefix.{kept, bestAs, isHeavier, isHeavy, tried, Whole, AtPrefix, NextLetter};
 ghost use Rattle.search.specs.Steps.Walk.{completions};
 ghost use Rattle.search.specs.Steps.Hadamard.{isNext, hadamardCuts};
 use crate::Best;
 use crate::hadamard;
 
-// Whether every row that begins with the prefix and the letter, and counts at least the bound, is heavier than the row kept, or as
-// heavy and not shallower. Figures are added up only where the counts are equal.
+// Whether a row that counts at least the bound is heavier than the row kept.
+fn is_heavier(bound: u32, best: Best) -> bool
+    ensures { λ r. ⌜ r ≡ isHeavier best bound ⌝ }
+{
+    best.found && best.count < bound
+}
+
+// Whether every row that begins with the first k entries of the array is heavier than the row kept, or as heavy and not shallower, by
+// what it counts at least and how deep it then is at least. Figures are added up only where the counts are equal.
 fn is_heavy(
     p: u16,
+    n: usize,
     ones: &[u8; 2048],
     counts: &[u8; 256],
-    prefix: [u8; 8],
-    level: usize,
-    a: u8,
+    row: [u8; 8],
+    k: usize,
     bound: u32,
     best: Best,
 ) -> bool
-    requires { ⌜ Modulus p × (level < 8) × WordsInField p (level + 1) (set prefix level a) × CountsOf p (level + 1) (now counts) (set prefix level a) × (now ones ≡ onesTable p) ⌝ }
-    ensures { λ r. ⌜ r ≡ isHeavy best bound (lineDepth p (level + 1) (λ j. getD (set prefix level a) j 0)) ⌝ }
+    requires { ⌜ Modulus p × (k ≤ n) × (n ≤ 8) × (bound ≤ 4095) × WordsInField p k row × CountsOf p k (now counts) row × (now ones ≡ onesTable p) ⌝ }
+    ensures { λ r. ⌜ r ≡ isHeavy best bound (leastDepth p n (λ j. getD row j 0) k bound) ⌝ }
 {
     if !best.found {
         return false;
@@ -39,9 +45,7 @@ fn is_heavy(
     if best.count != bound {
         return best.count < bound;
     }
-    let mut row = prefix;
-    row[level] = a;
-    best.depth <= matrix::figure::line_depth(p, ones, counts, row, level + 1)
+    best.depth <= matrix::figure::least_depth(p, ones, counts, row, k, n, bound)
 }
 
 // The row, where it is good; else the row kept before.
@@ -93,7 +97,7 @@ fn branch(
     }
     let next = level + 1;
     let bound = count + counts[a as usize] as u32 + least * (n - next) as u32;
-    if is_heavy(p, ones, counts, prefix, level, a, bound, best) {
+    if is_heavier(bound, best) {
         return best;
     }
     grow(
@@ -112,7 +116,7 @@ fn branch(
     )
 }
 
-// The same where the letter comes next by the order, and the rows are not too heavy.
+// The same where the letter comes next by the order.
 fn grow(
     p: u16,
     products: &[u8; 65536],
@@ -127,13 +131,17 @@ fn grow(
     a: u8,
     best: Best,
 ) -> Best
-    requires { ⌜ AtPrefix (hadamardCuts p n) p n (now letters) (now counts) least level prefix count best × NextLetter (hadamardCuts p n) n (now letters) level prefix a × (isNext (take level prefix) a ≡ true) × (isHeavy best (count + getD (now counts) a 0 + least * (n - (level + 1))) (lineDepth p (level + 1) (λ j. getD (set prefix level a) j 0)) ≡ false) × Products p (now products) × (now ones ≡ onesTable p) ⌝ }
+    requires { ⌜ AtPrefix (hadamardCuts p n) p n (now letters) (now counts) least level prefix count best × NextLetter (hadamardCuts p n) n (now letters) level prefix a × (isNext (take level prefix) a ≡ true) × Products p (now products) × (now ones ≡ onesTable p) ⌝ }
     ensures { λ r. ⌜ r ≡ kept p n (keepAll (tried (hadamardCuts p n) p n) (keyOf p n) (bestAs n best) (completions (now (letters .entry)) (take level prefix ++ a ∷ []) (n - (level + 1)))) ⌝ }
 {
     let next = level + 1;
     let total = count + counts[a as usize] as u32;
     let mut row = prefix;
     row[level] = a;
+    let bound = total + least * (n - next) as u32;
+    if is_heavy(p, n, ones, counts, row, next, bound, best) {
+        return best;
+    }
     if !hadamard::planes_pass(p, products, n, row, level) {
         return best;
     }

@@ -1,7 +1,8 @@
--- The figures of elements and of lines, as the structs that hold them. Assumes nothing.
+-- The figures of elements and of lines, as the structs that hold them, and what the first entries of a line tell of its depth. Nobody need believe these:
+-- `figure-depth` of proofs/Figures.antt and `leastDepth-le` of proofs/LineOnes.antt tie them to the definitions. Assumes nothing.
 use mathlib.Core.Path.{_≡_}
 use mathlib.Core.List.{List}
-use Prim.Native.Nat.{ℕ, _+_, _*_, _/_, _%_, _^_, _≤_, _<_}
+use Prim.Native.Nat.{ℕ, _+_, _-_, _*_, _/_, _%_, _^_, _≤_, _<_, max}
 use lib.ListN.{getD}
 use Rattle.algebra.specs.Matrix.{tabulate}
 use Rattle.field.specs.Polynomial.{degree, xorCount}
@@ -38,3 +39,11 @@ pub record Addable (x y : Figure) : Type 0 where
 -- the depth that the greatest of eight numbers of ones makes
 unfoldable pub depthOfOnes : List ℕ → ℕ
 depthOfOnes ones = depthOf (greatest 8 (λ b. getD ones b 0))
+
+-- the ones that some output bit of n nonzero entries with this count has at least: no fewer than the average
+unfoldable pub averageOnes : ℕ → ℕ → ℕ → ℕ
+averageOnes p n count = n + (count + degree p - 1) / degree p
+
+-- the depth of n nonzero entries with this count is at least this, whatever stands behind the first k: each entry adds a one to every output bit
+unfoldable pub leastDepth : ℕ → ℕ → (ℕ → ℕ) → ℕ → ℕ → ℕ
+leastDepth p n line k count = max (depthOf (greatest 8 (outputOnes p k line) + (n - k))) (depthOf (averageOnes p n count))

@@ -58,7 +58,7 @@ extend-requires c κs =
     let tables = c .before .before .before in
     let known = known-at tables in
     let s = start-of known in (
-      start-at (s .args .p) (s .args .n) (s .pre .0) (s .args .candidates .now) (s .pre .2) _ _ _ _ (known .before .before .before .count-table .ensures)
+      start-at (s .args .p) (s .args .n) (s .pre .0) (s .args .candidates .now) (s .pre .2) (s .pre .3) _ _ _ _ (known .before .before .before .count-table .ensures)
           (known .before .size .ensures) (known .letters-of .ensures) (tables .before .before .before .least-count .ensures)
           (hadamardCuts (s .args .p) (s .args .n)) (s .pre .1) (order-least (s .args .n) (s .pre .1)) (order-most (s .args .n) (s .pre .1)),
       tables .before .products .ensures,
@@ -70,7 +70,7 @@ returns c =
     let tables = c .before .before .before .before in
     let known = known-at tables in
     let s = start-of known in
-    start-answer (s .args .p) (s .args .n) (s .pre .0) (s .args .candidates .now) (s .pre .2) _ _ _ _ (known .before .before .before .count-table .ensures)
+    start-answer (s .args .p) (s .args .n) (s .pre .0) (s .args .candidates .now) (s .pre .2) (s .pre .3) _ _ _ _ (known .before .before .before .count-table .ensures)
     (known .before .size .ensures) (known .letters-of .ensures) (tables .before .before .before .least-count .ensures)
     (hadamardCuts (s .args .p) (s .args .n)) (tried-rows (s .args .p) (s .args .n) (s .pre .0) (s .pre .1) (s .args .candidates .now)) (c .extend .result) (c .extend .ensures)
 

@@ -93,7 +93,7 @@ returns-4 c =
 lightest-row-requires : tie.Need-lightest-row-requires
 lightest-row-requires c κs =
     let s = c .before .before .before .before .before .before .before .before .before in
-    (s .pre, order-of (s .args .n) (order (c .before .before .before .before .before .before)), values (c .before .before))
+    (s .pre, order-of (s .args .n) (order (c .before .before .before .before .before .before)), values (c .before .before), bad c)
 
 found-requires : tie.Need-found-requires
 found-requires c κs =

@@ -49,18 +49,23 @@ kept p n (found row) = record { found = true; row = row ++ replicate (8 - n) 0; 
 unfoldable pub bestAs : ℕ → Kept → Best
 bestAs n b = cond (b .found) (found (take n (b .row))) nothing
 
+-- a row of this count or more is heavier than the row kept
+unfoldable pub isHeavier : Kept → ℕ → Bool
+isHeavier b count = b .found && ltb (b .count) count
+
 -- a row of this count and this depth, or more, is heavier than the row kept, or as heavy and not shallower
 unfoldable pub isHeavy : Kept → ℕ → ℕ → Bool
 isHeavy b count depth = b .found && (ltb (b .count) count || (eqb (b .count) count && leb (b .depth) depth))
 
 -- ---- the prefix
 
--- what does not change: the field, the order, the letters with their table, and the least count of a letter
+-- what does not change: the field, the order, the letters, which are nonzero elements, with their table, and the least count of a letter
 pub record Brief (cuts : Cuts) (p n : ℕ) (letters counts : List ℕ) (least : ℕ) : Type 0 where
   pub modulus : Modulus p
   pub order : cuts .Order n
   pub most : n ≤ 8
   pub below : (a : ℕ) → List·Memᴰ a letters → a < 2 ^ degree p
+  pub positive : (a : ℕ) → List·Memᴰ a letters → 0 < a
   pub table : counts ≡ countTable p letters
   pub lowest : least ≡ leastCount counts letters
 

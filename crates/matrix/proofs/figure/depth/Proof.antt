@@ -9,6 +9,9 @@ use Rattle.matrix.proofs.figure.depth.Tie as tie
 greatest-requires : tie.Need-greatest-requires
 greatest-requires c κs = search needs
 
+cast-depth-of : tie.Need-cast-depth-of
+cast-depth-of c = search needs
+
 depth-of-requires : tie.Need-depth-of-requires
 depth-of-requires c κs = search needs
 
@@ -17,4 +20,4 @@ unfolding depthOfOnes
 returns c = c .depth-of .ensures ∙ ap depthOf (c .before .greatest .ensures)
 
 pub depth-spec : {M : Type 1} → statement M
-depth-spec = tie.close (tie.spec greatest-requires depth-of-requires returns)
+depth-spec = tie.close (tie.spec greatest-requires cast-depth-of depth-of-requires returns)

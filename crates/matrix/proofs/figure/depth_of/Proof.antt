@@ -12,21 +12,21 @@ use Rattle.matrix.proofs.figure.depth_of.Statement.{statement}
 use Rattle.matrix.proofs.figure.depth_of.Tie as tie
 
 abbrev Inv-loop : tie.InvT-loop
-Inv-loop t d₀ reached₀ d reached = (d ≤ 8) × (reached ≡ 2 ^ d) × ((e : ℕ) → e < d → 2 ^ e < t)
+Inv-loop t d₀ reached₀ d reached = (d ≤ 16) × (reached ≡ 2 ^ d) × ((e : ℕ) → e < d → 2 ^ e < t)
 
 abbrev μ-loop : tie.MeasureT-loop
-μ-loop t d₀ reached₀ d reached = 8 - d
+μ-loop t d₀ reached₀ d reached = 16 - d
 
 loop-holds : tie.Need-loop-holds Inv-loop μ-loop
 loop-holds c = (omega arith, refl, λ e l. absurd (omega arith))
 
-byte : (c : tie.In-loop Inv-loop μ-loop) → c .before .before .args .t < 256
-byte c = search needs
+word : (c : tie.In-loop Inv-loop μ-loop) → c .before .before .args .t < 65536
+word c = search needs
 
--- t is a byte, so the loop ends at 2^8
-below : (c : tie.In-loop Inv-loop μ-loop) → c .before .loop .d < 8
+-- t fits 16 bits, so the loop ends at 2^16
+below : (c : tie.In-loop Inv-loop μ-loop) → c .before .loop .d < 16
 below c =
-    pow-cancel (c .before .loop .d) 8 (omega (arith, c .before .loop .inv .1, c .loop-test .taken, byte c))
+    pow-cancel (c .before .loop .d) 16 (omega (arith, c .before .loop .inv .1, c .loop-test .taken, word c))
 
 add-d : tie.Need-add-d Inv-loop μ-loop
 add-d c = record { fits = omega (arith, below c) }
@@ -37,7 +37,7 @@ loop-less c = omega (arith, below c)
 loop-again : tie.Need-loop-again Inv-loop μ-loop
 loop-again c =
     let at = c .before .loop in
-    let small : at .reached * 2 < 65536 = omega (arith, c .loop-test .taken, byte c) in (
+    let small : at .reached * 2 < 4294967296 = omega (arith, c .loop-test .taken, word c) in (
       omega (arith, below c),
       mod-eq-of-lt small ∙ ap (λ (x : ℕ). x * 2) (at .inv .1) ∙ sym (ap (λ (k : ℕ). 2 ^ k) (add-one (at .d)) ∙ pow-suc 2 (at .d)),
       λ e l. ⊎-elim (λ (q : suc e ≡ at .d + 1). let same : e ≡ at .d = omega arith in rw (same, ← at .inv .1) (c .loop-test .taken)) (λ (h : suc e < at .d + 1). at .inv .2 e (omega arith)) (eq-or-lt-of-le l),

@@ -13,7 +13,7 @@ use Rattle.search.specs.Answer.{keyOf}
 use Rattle.search.specs.Steps.Prefix.{kept, bestAs, tried}
 use Rattle.search.specs.Steps.Hadamard.{mayStand, hadamardCuts}
 use Rattle.search.proofs.HadamardCuts.{stand-not-next, stand-not-planes, stand-both, only-last}
-use Rattle.search.proofs.Prefixes.{level-inside, level-fits, count-small, bound-small, letter-small, branch-left, branch-heavy}
+use Rattle.search.proofs.Prefixes.{level-inside, level-fits, count-small, bound-small, letter-small, branch-left, branch-heavy, branch-heavier}
 use Rattle.search.proofs.Prefixes.{prefix-next, in-field-next, in-field-suc, counts-next, counts-whole, at-next, whole-next, branch-whole}
 use Rattle.search.proofs.Prefixes.{upto-none, upto-letter, upto-at, upto-more, upto-all, last-left, last-taken, last-row}
 use borrow.Author.Needs.{needs}
@@ -32,6 +32,7 @@ use Rattle.search.proofs.prefix.finish.Reads as finish-reads
 use Rattle.search.proofs.hadamard.last_letter.Reads as last-letter-reads
 use Rattle.search.proofs.hadamard.is_next.Reads as is-next-reads
 use Rattle.search.proofs.hadamard.planes_pass.Reads as planes-pass-reads
+use Rattle.search.proofs.prefix.is_heavier.Reads as is-heavier-reads
 use Rattle.search.proofs.prefix.is_heavy.Reads as is-heavy-reads
 use Rattle.search.proofs.prefix.+branch+extend+grow.{statement}
 use Rattle.search.proofs.prefix.+branch+extend+grow.Tie.{close}
@@ -67,10 +68,10 @@ abbrev grow-below : ℕ → In 4 grow-kinds.ps
 grow-below t = and 4 grow-kinds.ps (falls 4 grow-kinds.ps _<_ μ-grow t) grow.Pre
 
 abbrev branch-given : ℕ → branch-lts.Claims
-branch-given t = (is-next-reads.Asked, is-next-reads.Learnt, is-heavy-reads.Asked, is-heavy-reads.Learnt, grow-below t, grow.Post)
+branch-given t = (is-next-reads.Asked, is-next-reads.Learnt, is-heavier-reads.Asked, is-heavier-reads.Learnt, grow-below t, grow.Post)
 
 abbrev grow-given : ℕ → grow-lts.Claims
-grow-given t = (planes-pass-reads.Asked, planes-pass-reads.Learnt, finish-reads.Asked, finish-reads.Learnt, extend-below t, extend.Post)
+grow-given t = (is-heavy-reads.Asked, is-heavy-reads.Learnt, planes-pass-reads.Asked, planes-pass-reads.Learnt, finish-reads.Asked, finish-reads.Learnt, extend-below t, extend.Post)
 
 abbrev extend-given : ℕ → extend-lts.Claims
 extend-given t = (last-letter-reads.Asked, last-letter-reads.Learnt, branch-below t, branch.Post)
@@ -120,20 +121,13 @@ branch-add-bound-2 t c =
     let s = start-of t c in
     record { fits = omega (arith, letter-small (s .pre .1 .0) (s .pre .1 .1), count-small (s .pre .1 .0), bound-small (s .pre .1 .0)) }
 
-branch-is-heavy-requires : (t : ℕ) → branch-lts.Need-is-heavy-requires (branch-given t) (branch-at t) branch.Post
-branch-is-heavy-requires t c κs =
-    let s = start-of t c in (
-      s .pre .1 .0 .brief .modulus,
-      level-inside (s .pre .1 .0),
-      in-field-next (s .pre .1 .0) (s .pre .1 .1),
-      counts-next (s .pre .1 .0) (s .pre .1 .1),
-      s .pre .1 .3,
-    )
+branch-is-heavier-requires : (t : ℕ) → branch-lts.Need-is-heavier-requires (branch-given t) (branch-at t) branch.Post
+branch-is-heavier-requires t c κs = search needs
 
 branch-returns-2 : (t : ℕ) → branch-lts.Need-returns-2 (branch-given t) (branch-at t) branch.Post
 branch-returns-2 t c =
     let s = start-of t (c .before .before) in
-    branch-heavy (s .pre .1 .0) (s .pre .1 .1) (sym (c .before .is-heavy .ensures) ∙ c .if2 .taken)
+    branch-heavier (s .pre .1 .0) (s .pre .1 .1) (sym (c .before .is-heavier .ensures) ∙ c .if2 .taken)
 
 branch-grow-requires : (t : ℕ) → branch-lts.Need-grow-requires (branch-given t) (branch-at t) branch.Post
 branch-grow-requires t c κs =
@@ -142,22 +136,11 @@ branch-grow-requires t c κs =
     let same : thrice (s .args .n - s .args .level) + 1 ≡ t = s .pre .0 in
     let less : thrice (s .args .n - s .args .level) < t = omega arith in (
       less,
-      (
-        s .pre .1 .0,
-        s .pre .1 .1,
-        sym (next .ensures) ∙ not-false (next .result) (c .before .before .before .if1 .left),
-        sym (c .before .is-heavy .ensures) ∙ c .if2 .left,
-        s .pre .1 .2,
-        s .pre .1 .3,
-      ),
+      (s .pre .1 .0, s .pre .1 .1, sym (next .ensures) ∙ not-false (next .result) (c .before .before .before .if1 .left), s .pre .1 .2, s .pre .1 .3),
     )
 
 branch-returns-3 : (t : ℕ) → branch-lts.Need-returns-3 (branch-given t) (branch-at t) branch.Post
 branch-returns-3 t c = c .grow .ensures
-
--- the letter may stand behind the prefix
-abbrev Stands : (t : ℕ) → grow-lts.Start (grow-given t) (grow-at t) grow.Post → Type 0
-Stands t s = mayStand (s .args .p) (s .args .n) (take (s .args .level) (s .args .prefix)) (s .args .a) ≡ true
 
 grow-add-next : (t : ℕ) → grow-lts.Need-add-next (grow-given t) (grow-at t) grow.Post
 grow-add-next t c = search needs
@@ -176,59 +159,97 @@ grow-add-total t c =
     record { fits = omega (arith, letter-small (s .pre .1 .0) (s .pre .1 .1), count-small (s .pre .1 .0)) }
 
 grow-array-write-row : (t : ℕ) → grow-lts.Need-array-write-row (grow-given t) (grow-at t) grow.Post
-grow-array-write-row t c =
-    let s = c .before .before in
-    level-inside (s .pre .1 .0)
+grow-array-write-row t c = level-inside (c .before .before .pre .1 .0)
 
-grow-planes-pass-requires : (t : ℕ) → grow-lts.Need-planes-pass-requires (grow-given t) (grow-at t) grow.Post
-grow-planes-pass-requires t c κs =
+grow-sub-bound : (t : ℕ) → grow-lts.Need-sub-bound (grow-given t) (grow-at t) grow.Post
+grow-sub-bound t c = search needs
+
+grow-cast-bound : (t : ℕ) → grow-lts.Need-cast-bound (grow-given t) (grow-at t) grow.Post
+grow-cast-bound t c = record { fits = omega (arith, c .before .before .pre .1 .0 .brief .most) }
+
+grow-mul-bound : (t : ℕ) → grow-lts.Need-mul-bound (grow-given t) (grow-at t) grow.Post
+grow-mul-bound t c = record { fits = lt-of-le-of-lt (bound-small (c .before .before .pre .1 .0)) (lit< tt) }
+
+grow-add-bound : (t : ℕ) → grow-lts.Need-add-bound (grow-given t) (grow-at t) grow.Post
+grow-add-bound t c =
     let s = c .before .before in
-    (level-inside (s .pre .1 .0), in-field-suc (s .pre .1 .0) (s .pre .1 .1), s .pre .1 .4)
+    record { fits = omega (arith, letter-small (s .pre .1 .0) (s .pre .1 .1), count-small (s .pre .1 .0), bound-small (s .pre .1 .0)) }
+
+grow-is-heavy-requires : (t : ℕ) → grow-lts.Need-is-heavy-requires (grow-given t) (grow-at t) grow.Post
+grow-is-heavy-requires t c κs =
+    let s = c .before .before in
+    let at = s .pre .1 .0 in (
+      at .brief .modulus,
+      omega (arith, at .inside),
+      at .brief .most,
+      omega (arith, letter-small at (s .pre .1 .1), count-small at, bound-small at),
+      in-field-next at (s .pre .1 .1),
+      counts-next at (s .pre .1 .1),
+      s .pre .1 .4,
+    )
 
 grow-returns : (t : ℕ) → grow-lts.Need-returns (grow-given t) (grow-at t) grow.Post
 grow-returns t c =
     let s = c .before .before .before .before in
-    branch-left (s .pre .1 .0) (s .pre .1 .1)
-    (stand-not-planes _ _ _ _ (level-fits (s .pre .1 .0)) _ (sym (c .before .planes-pass .ensures) ∙ not-true (c .before .planes-pass .result) (c .if1 .taken)))
+    branch-heavy (s .pre .1 .0) (s .pre .1 .1) (sym (c .before .is-heavy .ensures) ∙ c .if1 .taken)
 
--- the letter may stand there
-stands : (t : ℕ) (c : grow-lts.Else1 (grow-given t) (grow-at t) grow.Post) → Stands t (c .before .before .before .before)
-stands t c =
+grow-planes-pass-requires : (t : ℕ) → grow-lts.Need-planes-pass-requires (grow-given t) (grow-at t) grow.Post
+grow-planes-pass-requires t c κs =
     let s = c .before .before .before .before in
+    (level-inside (s .pre .1 .0), in-field-suc (s .pre .1 .0) (s .pre .1 .1), s .pre .1 .3)
+
+-- the start, from where the planes are looked at
+abbrev start-from : (t : ℕ) → grow-lts.After-planes-pass (grow-given t) (grow-at t) grow.Post → grow-lts.Start (grow-given t) (grow-at t) grow.Post
+start-from t c = c .before .before .before .before .before
+
+-- the letter may stand behind the prefix
+abbrev Stands : (t : ℕ) → grow-lts.Start (grow-given t) (grow-at t) grow.Post → Type 0
+Stands t s = mayStand (s .args .p) (s .args .n) (take (s .args .level) (s .args .prefix)) (s .args .a) ≡ true
+
+grow-returns-2 : (t : ℕ) → grow-lts.Need-returns-2 (grow-given t) (grow-at t) grow.Post
+grow-returns-2 t c =
+    let s = start-from t (c .before) in
+    branch-left (s .pre .1 .0) (s .pre .1 .1)
+    (stand-not-planes _ _ _ _ (level-fits (s .pre .1 .0)) _ (sym (c .before .planes-pass .ensures) ∙ not-true (c .before .planes-pass .result) (c .if2 .taken)))
+
+stands : (t : ℕ) (c : grow-lts.Else2 (grow-given t) (grow-at t) grow.Post) → Stands t (start-from t (c .before))
+stands t c =
+    let s = start-from t (c .before) in
     stand-both _ _ _ _ (level-fits (s .pre .1 .0)) _ (s .pre .1 .2)
-    (sym (c .before .planes-pass .ensures) ∙ not-false (c .before .planes-pass .result) (c .if1 .left))
+    (sym (c .before .planes-pass .ensures) ∙ not-false (c .before .planes-pass .result) (c .if2 .left))
 
 grow-finish-requires : (t : ℕ) → grow-lts.Need-finish-requires (grow-given t) (grow-at t) grow.Post
 grow-finish-requires t c κs =
-    let s = c .before .before .before .before .before in
+    let s = start-from t (c .before .before) in
     let may = stands t (c .before) in (
-      whole-next (s .pre .1 .0) (s .pre .1 .1) may (c .if2 .taken),
-      counts-whole (s .pre .1 .0) (s .pre .1 .1) may (c .if2 .taken),
-      s .pre .1 .5,
-      s .pre .1 .0 .holds,
+      whole-next (s .pre .1 .0) (s .pre .1 .1) may (c .if3 .taken),
+      counts-whole (s .pre .1 .0) (s .pre .1 .1) may (c .if3 .taken),
       s .pre .1 .4,
+      s .pre .1 .0 .holds,
+      s .pre .1 .3,
     )
 
 grow-extend-requires : (t : ℕ) → grow-lts.Need-extend-requires (grow-given t) (grow-at t) grow.Post
 grow-extend-requires t c κs =
-    let s = c .before .before .before .before .before in
+    let s = start-from t (c .before .before) in
     let n = s .args .n in
     let level = s .args .level in
     let inside : level < n = s .pre .1 .0 .inside in
     let same : thrice (n - level) ≡ t = s .pre .0 in
     let less : thrice (n - (level + 1)) + 2 < t = omega arith in
-    (less, (at-next (s .pre .1 .0) (s .pre .1 .1) (stands t (c .before)) (c .if2 .left), s .pre .1 .4, s .pre .1 .5))
-
-grow-returns-2 : (t : ℕ) → grow-lts.Need-returns-2 (grow-given t) (grow-at t) grow.Post
-grow-returns-2 t c =
-    let s = c .before .before .before .before .before .before in
-    c .finish .ensures
-    ∙ ap (kept (s .args .p) (s .args .n))
-    (branch-whole (s .pre .1 .0) (s .pre .1 .1) (stands t (c .before .before)) (c .before .if2 .taken) (s .pre .1 .3))
+    (less, (at-next (s .pre .1 .0) (s .pre .1 .1) (stands t (c .before)) (c .if3 .left), s .pre .1 .3, s .pre .1 .4))
 
 grow-returns-3 : (t : ℕ) → grow-lts.Need-returns-3 (grow-given t) (grow-at t) grow.Post
 grow-returns-3 t c =
-    let s = c .before .before .before .before .before .before in
+    let s = start-from t (c .before .before .before) in
+    let light = c .before .before .before .before in
+    c .finish .ensures
+    ∙ ap (kept (s .args .p) (s .args .n))
+    (branch-whole (s .pre .1 .0) (s .pre .1 .1) (stands t (c .before .before)) (c .before .if3 .taken) (sym (light .before .is-heavy .ensures) ∙ light .if1 .left))
+
+grow-returns-4 : (t : ℕ) → grow-lts.Need-returns-4 (grow-given t) (grow-at t) grow.Post
+grow-returns-4 t c =
+    let s = start-from t (c .before .before .before) in
     let a = s .args in
     c .extend .ensures
     ∙ ap (λ l. kept (a .p) (a .n) (keepAll (tried (hadamardCuts (a .p) (a .n)) (a .p) (a .n)) (keyOf (a .p) (a .n)) (bestAs (a .n) (a .best)) (completions (a .letters .now) l (a .n - (a .level + 1)))))
@@ -332,7 +353,7 @@ pub +branch+extend+grow-spec : {M : Type 1} → statement M
     (branch-cast-bound-2 t)
     (branch-mul-bound t)
     (branch-add-bound-2 t)
-    (branch-is-heavy-requires t)
+    (branch-is-heavier-requires t)
     (branch-returns-2 t)
     (branch-grow-requires t)
     (branch-returns-3 t))
@@ -364,9 +385,15 @@ pub +branch+extend+grow-spec : {M : Type 1} → statement M
     (grow-cast-total t)
     (grow-add-total t)
     (grow-array-write-row t)
-    (grow-planes-pass-requires t)
+    (grow-sub-bound t)
+    (grow-cast-bound t)
+    (grow-mul-bound t)
+    (grow-add-bound t)
+    (grow-is-heavy-requires t)
     (grow-returns t)
+    (grow-planes-pass-requires t)
+    (grow-returns-2 t)
     (grow-finish-requires t)
     (grow-extend-requires t)
-    (grow-returns-2 t)
     (grow-returns-3 t)
+    (grow-returns-4 t)
