@@ -2,8 +2,8 @@
 use mathlib.Core.Path.{_≡_, refl, ap, ap₂, _∙_}
 use mathlib.Core.Bool.{Bool, true, false, not, _||_}
 use mathlib.Core.List.{List, [], _++_}
-use Prim.Native.Nat.{ℕ, _^_, _≤_, _<_}
-use native.Mathlib.Nat.{lt-of-lt-of-le, lt-of-le-of-lt}
+use Prim.Native.Nat.{ℕ, _*_, _%_, _^_, _≤_, _<_}
+use native.Mathlib.Nat.{lt-of-lt-of-le, lt-of-le-of-lt, mul-le-mul, mod-eq-of-lt}
 use native.Mathlib.Omega.{arith}
 use borrow.Author.Tests.{ltb-false, lt-ltb, le-ltb, leb-false, not-false}
 use lib.Dec.{ltb, lit<}
@@ -91,6 +91,10 @@ not-too-large p a e = leb-false (2 ^ degree p) a e
 -- a field has at most 256 elements
 pub elements-most : (p : ℕ) → Modulus p → 2 ^ degree p ≤ 256
 elements-most p h = pow-mono {j = 8} (polynomial p h .most)
+
+-- a width of at most 256 shifted by the degree: so many entries for each element
+pub shifted-width : (width p m : ℕ) → Modulus p → width ≤ 256 → m ≡ degree p → width * 2 ^ m % 2 ^ 64 ≡ width * 2 ^ degree p
+shifted-width width p m h l e = rw e (mod-eq-of-lt (lt-of-le-of-lt (mul-le-mul {n₂ = 256} {m₂ = 256} l (elements-most p h)) (lit< tt)))
 
 -- an element fits a byte
 pub element-fits : (p a : ℕ) → Modulus p → isTooLarge p a ≡ false → a < 256

@@ -6,7 +6,7 @@ ghost use Prim.Native.Nat.{_^_, _≤_, _<_, max};
 ghost use lib.ListN.{getD};
 ghost use Rattle.field.specs.Polynomial.{Modulus, degree, xorCount};
 ghost use Rattle.matrix.specs.Numbers.{WordsInField};
-ghost use Rattle.matrix.specs.Depths.{onesInLine, depthOf, greatest, lineDepth};
+ghost use Rattle.matrix.specs.Depths.{onesInLine, depthOf, greatest};
 ghost use Rattle.matrix.specs.Steps.Figures.{onesTable, CountsOf, figureOf, lineFigure, figureSum, Addable, depthOfOnes, averageOnes, leastDepth};
 
 // Of an element, or the sum over a row: the count, and the ones for each output bit, 0 behind the degree.
@@ -82,7 +82,13 @@ fn plus(x: Figure, y: Figure) -> Figure
 }
 
 // The figure of a line of n entries whose counts are known: the sum of their figures.
-fn line_figure(p: u16, table: &[u8; 2048], counts: &[u8; 256], line: [u8; 8], n: usize) -> Figure
+pub fn line_figure(
+    p: u16,
+    table: &[u8; 2048],
+    counts: &[u8; 256],
+    line: [u8; 8],
+    n: usize,
+) -> Figure
     requires { ⌜ Modulus p × (n ≤ 8) × WordsInField p n line × CountsOf p n (now counts) line × (now table ≡ onesTable p) ⌝ }
     ensures { λ r. ⌜ r ≡ lineFigure p n (λ j. getD line j 0) ⌝ }
 {
@@ -135,19 +141,10 @@ fn depth_of(t: u16) -> u8
 }
 
 // The depth of a row with these ones for its output bits: the greatest over the bits, which the greatest number of ones makes.
-fn depth(ones: [u8; 8]) -> u8
+pub fn depth(ones: [u8; 8]) -> u8
     ensures { λ r. ⌜ r ≡ depthOfOnes ones ⌝ }
 {
     depth_of(greatest(ones) as u16)
-}
-
-// The depth of a line of n entries whose counts are known: the greatest over the bits of its output.
-pub fn line_depth(p: u16, table: &[u8; 2048], counts: &[u8; 256], line: [u8; 8], n: usize) -> u8
-    requires { ⌜ Modulus p × (n ≤ 8) × WordsInField p n line × CountsOf p n (now counts) line × (now table ≡ onesTable p) ⌝ }
-    ensures { λ r. ⌜ r ≡ lineDepth p n (λ j. getD line j 0) ⌝ }
-{
-    let ones = line_figure(p, table, counts, line, n).ones;
-    depth(ones)
 }
 
 // The ones that some output bit of n nonzero entries with this count has at least: no fewer than the average.

@@ -20,10 +20,12 @@ use Rattle.field.proofs.Degrees.{polynomial}
 use Rattle.matrix.specs.Numbers.{WordsInField}
 use Rattle.matrix.specs.Counts.{elementCount}
 use Rattle.matrix.specs.Depths.{lineDepth}
-use Rattle.matrix.specs.Steps.Figures.{CountsOf, leastDepth}
+use Rattle.matrix.specs.declared.figure.Figure.{Figure}
+use Rattle.matrix.specs.Steps.Figures.{CountsOf, lineFigure, depthOfOnes, leastDepth}
 use Rattle.matrix.proofs.Squares.{each-every}
 use Rattle.matrix.proofs.Tallies.{xorCount-le, elementCount-le, elementCount-cong, elementCount-step}
 use Rattle.matrix.proofs.Depths.{lineDepth-cong}
+use Rattle.matrix.proofs.Figures.{figure-depth}
 use Rattle.matrix.proofs.LineOnes.{leastDepth-whole, leastDepth-cong}
 use Rattle.search.specs.declared.Best.{Best as Kept}
 use Rattle.search.specs.Lightest.{Best, nothing, found, lighter, keep, keepAll, member}
@@ -99,12 +101,14 @@ depth-take p n row = lineDepth-cong p n _ _ (λ i l. getD-take n row i 0 l)
 abbrev rowKept : List ℕ → ℕ → ℕ → Kept
 rowKept row count depth = record { found = true; row = row; count = count; depth = depth }
 
-pub kept-row : {cuts : Cuts} {p n : ℕ} {row : List ℕ} {count : ℕ} → Whole cuts p n row count → (depth : ℕ) → depth ≡ lineDepth p n (λ j. getD row j 0)
-    → rowKept row count depth ≡ kept p n (found (take n row))
-unfolding kept depthOfRow
-kept-row {p = p} {n = n} {row = row} w depth e =
-    ap₂ (λ r c. rowKept r c depth) (sym (take-append-drop n row) ∙ ap (λ r. take n row ++ r) (w .rest)) (w .counted)
-    ∙ ap (rowKept (take n row ++ replicate (8 - n) 0) (sumOf p n (take n row))) (e ∙ sym (depth-take p n row))
+pub kept-row : {cuts : Cuts} {p n : ℕ} {row : List ℕ} → Whole cuts p n row → (figure : Figure) → figure ≡ lineFigure p n (λ j. getD row j 0)
+    → (depth : ℕ) → depth ≡ depthOfOnes (figure .ones) → rowKept row (figure .count) depth ≡ kept p n (found (take n row))
+unfolding kept sumOf depthOfRow lineFigure
+kept-row {p = p} {n = n} {row = row} w figure is depth e =
+    ap₂ (λ r c. rowKept r c depth) (sym (take-append-drop n row) ∙ ap (λ r. take n row ++ r) (w .rest))
+    (ap (λ (x : Figure). x .count) is ∙ sym (count-take p n row))
+    ∙ ap (rowKept (take n row ++ replicate (8 - n) 0) (sumOf p n (take n row)))
+    (e ∙ ap (λ (x : Figure). depthOfOnes (x .ones)) is ∙ figure-depth p n (λ j. getD row j 0) (w .modulus) ∙ sym (depth-take p n row))
 
 -- ---- the test against the row kept
 
@@ -348,7 +352,7 @@ module _ {cuts : Cuts} {p n : ℕ} {letters counts : List ℕ} {least level : �
 
       module _ (all : level + 1 ≡ n) where
         -- the row is whole
-        pub whole-next : Whole cuts p n longer (count + getD counts a 0)
+        pub whole-next : Whole cuts p n longer
         unfolding WordsInField
         whole-next =
             record {
@@ -359,8 +363,6 @@ module _ {cuts : Cuts} {p n : ℕ} {letters counts : List ℕ} {least level : �
               ends =
                   subst (λ (m : ℕ). cuts .mayEnd (take m longer) (getD longer m 0) ≡ true) (omega arith)
                   (ap₂ (cuts .mayEnd) before-here entry-here ∙ nx .last all);
-              counted =
-                  subst (λ (m : ℕ). count + getD counts a 0 ≡ elementCount p m (λ j. getD longer j 0)) all count-next ∙ unfold sumOf in sym (count-take p n longer);
               rest = reached-next .rest;
             }
 
@@ -381,7 +383,9 @@ module _ {cuts : Cuts} {p n : ℕ} {letters counts : List ℕ} {least level : �
         branch-whole e =
             let none : n - (level + 1) ≡ 0 = omega arith in
             let same : take n longer ≡ take level row ++ a ∷ [] = ap (λ (m : ℕ). take m longer) (sym all) ∙ prefix-next in
-            let sum : sumOf p n (take n longer) ≡ bound = omega (arith, ap (λ (m : ℕ). least * m) none, whole-next .counted) in
+            let counted : count + getD counts a 0 ≡ sumOf p n (take n longer) =
+            unfold sumOf in (count-next ∙ ap (λ (m : ℕ). elementCount p m (λ j. getD longer j 0)) all ∙ sym (count-take p n longer)) in
+            let sum : sumOf p n (take n longer) ≡ bound = omega (arith, ap (λ (m : ℕ). least * m) none) in
             let light = ap (λ (s : ℕ). isHeavy b s deep) sum ∙ e in
             sym (keep-tried cuts p n (bestAs n b) (take n longer) passes-next (heavy-false b p n (at .holds) (take n longer) deep depth-whole light))
             ∙ ap (keep (tried cuts p n) (keyOf p n) (bestAs n b)) same

@@ -48,7 +48,7 @@ fn is_heavy(
     best.depth <= matrix::figure::least_depth(p, ones, counts, row, k, n, bound)
 }
 
-// The row, where it is good; else the row kept before.
+// The row with what its figure tells, where it is good; else the row kept before.
 fn finish(
     p: u16,
     products: &[u8; 65536],
@@ -56,18 +56,19 @@ fn finish(
     ones: &[u8; 2048],
     counts: &[u8; 256],
     row: [u8; 8],
-    count: u32,
     best: Best,
 ) -> Best
-    requires { ⌜ Whole (hadamardCuts p n) p n row count × CountsOf p n (now counts) row × (now ones ≡ onesTable p) × (best ≡ kept p n (bestAs n best)) × Products p (now products) ⌝ }
+    requires { ⌜ Whole (hadamardCuts p n) p n row × CountsOf p n (now counts) row × (now ones ≡ onesTable p) × (best ≡ kept p n (bestAs n best)) × Products p (now products) ⌝ }
     ensures { λ r. ⌜ r ≡ kept p n (cond (isGood hadamardShape p n (take n row)) (found (take n row)) (bestAs n best)) ⌝ }
 {
     if hadamard::is_good(p, products, n, row) {
+        let figure = matrix::figure::line_figure(p, ones, counts, row, n);
+        let row_ones = figure.ones;
         Best {
             found: true,
             row,
-            depth: matrix::figure::line_depth(p, ones, counts, row, n),
-            count,
+            depth: matrix::figure::depth(row_ones),
+            count: figure.count,
         }
     } else {
         best
@@ -146,7 +147,7 @@ fn grow(
         return best;
     }
     if next == n {
-        finish(p, products, n, ones, counts, row, total, best)
+        finish(p, products, n, ones, counts, row, best)
     } else {
         extend(
             p,

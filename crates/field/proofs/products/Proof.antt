@@ -1,13 +1,13 @@
 -- `field::products` meets its contract: after i turns the table has its first i entries. Assumes nothing.
 use mathlib.Core.Path.{_≡_}
-use Prim.Native.Nat.{ℕ, _*_, _-_, _/_, _%_, _^_, _≤_, _<_, zero-le}
-use native.Mathlib.Nat.{lt-of-lt-of-le, lt-of-le-of-lt, mod-eq-of-lt}
+use Prim.Native.Nat.{ℕ, _*_, _-_, _/_, _^_, _≤_, _<_, zero-le}
+use native.Mathlib.Nat.{lt-of-lt-of-le}
 use native.Mathlib.Omega.{arith}
-use lib.Dec.{lit<}
+use lib.Dec.{lit≤}
 use lib.ListN.{length-replicate, getD-replicate}
-use Rattle.field.specs.Polynomial.{Modulus, degree}
+use Rattle.field.specs.Polynomial.{degree}
 use Rattle.field.proofs.Degrees.{polynomial}
-use Rattle.field.proofs.Calls.{elements-most}
+use Rattle.field.proofs.Calls.{elements-most, shifted-width}
 use Rattle.field.proofs.ProductTable.{Filled, filled-none, filled-half, filled-more, filled-all}
 use borrow.Author.Needs.{needs}
 use Rattle.field.proofs.products.Statement.{statement}
@@ -28,17 +28,11 @@ cast-end c = search needs
 shl-end : tie.Need-shl-end Inv-loop μ-loop
 shl-end c = omega (arith, c .degree .ensures, polynomial (c .before .args .p) (c .before .pre) .most)
 
--- the end of the elements, as the code has it
-end-is : (p m : ℕ) → Modulus p → m ≡ degree p → 256 * 2 ^ m % 2 ^ 64 ≡ 256 * 2 ^ degree p
-end-is p m h e =
-    let most : 256 * 2 ^ degree p ≤ 65536 = omega (arith, elements-most p h) in
-    rw e (mod-eq-of-lt (lt-of-le-of-lt most (lit< tt)))
-
 loop-holds : tie.Need-loop-holds Inv-loop μ-loop
 loop-holds c =
     let p = c .before .args .p in
     let h = c .before .pre in
-    let is = end-is p _ h (c .degree .ensures) in
+    let is = shifted-width 256 p _ h (lit≤ tt) (c .degree .ensures) in
     (is, omega (arith, is, elements-most p h), zero-le, filled-none p _ (length-replicate {A = ℕ} 65536 0) (λ j l. getD-replicate {A = ℕ} 65536 j 0 0 l))
 
 -- the number of the entry's element

@@ -78,14 +78,13 @@ pub record Reached (cuts : Cuts) (p n : ℕ) (letters : List ℕ) (level : ℕ) 
   pub counted : count ≡ elementCount p level (λ j. getD row j 0)
   pub rest : drop n row ≡ replicate (8 - n) 0
 
--- a whole row of order n over the field with its sum, whose entries may stand where they do, the last as the last
-pub record Whole (cuts : Cuts) (p n : ℕ) (row : List ℕ) (count : ℕ) : Type 0 where
+-- a whole row of order n over the field, whose entries may stand where they do, the last as the last
+pub record Whole (cuts : Cuts) (p n : ℕ) (row : List ℕ) : Type 0 where
   pub modulus : Modulus p
   pub order : cuts .Order n
   pub inField : WordsInField p n row
   pub stands : AllStand cuts n row
   pub ends : cuts .mayEnd (take (n - 1) row) (getD row (n - 1) 0) ≡ true
-  pub counted : count ≡ sumOf p n (take n row)
   pub rest : drop n row ≡ replicate (8 - n) 0
 
 -- the walk is at a prefix that is no whole row, with a row kept

@@ -1,12 +1,12 @@
 -- `answer::survey::nonzero` meets its contract: 1 shifted by the degree, less 1. Assumes nothing.
 use mathlib.Core.Path.{_≡_, ap, _∙_}
 use Prim.Native.Nat.{ℕ, _-_, _*_, _%_, _^_}
-use native.Mathlib.Nat.{one-mul, mod-eq-of-lt, lt-of-le-of-lt}
+use native.Mathlib.Nat.{one-mul}
 use native.Mathlib.Omega.{arith}
-use lib.Dec.{lit<}
+use lib.Dec.{lit≤}
 use Rattle.field.specs.Polynomial.{degree}
 use Rattle.field.proofs.Degrees.{polynomial}
-use Rattle.field.proofs.Calls.{elements-most}
+use Rattle.field.proofs.Calls.{shifted-width}
 use Rattle.answer.proofs.Surveys.{size-low}
 use borrow.Author.Needs.{needs}
 use Rattle.answer.proofs.survey.nonzero.Statement.{statement}
@@ -25,9 +25,7 @@ shl-result c = omega (arith, c .degree .ensures, polynomial (c .before .args .p)
 shifted : (c : tie.After-degree) → 1 * 2 ^ c .degree .result % 2 ^ 64 ≡ 2 ^ degree (c .before .args .p)
 shifted c =
     let p = c .before .args .p in
-    ap (λ (n : ℕ). 1 * 2 ^ n % 2 ^ 64) (c .degree .ensures)
-    ∙ ap (λ (n : ℕ). n % 2 ^ 64) (one-mul (2 ^ degree p))
-    ∙ mod-eq-of-lt (lt-of-le-of-lt (elements-most p (c .before .pre)) (lit< tt))
+    shifted-width 1 p _ (c .before .pre) (lit≤ tt) (c .degree .ensures) ∙ one-mul (2 ^ degree p)
 
 sub-result : tie.Need-sub-result
 sub-result c = omega (arith, shifted c, size-low (c .before .args .p) (c .before .pre))

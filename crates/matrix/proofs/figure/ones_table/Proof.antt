@@ -1,13 +1,13 @@
 -- `matrix::figure::ones_table` meets its contract: after i turns the first i entries are stored. Assumes nothing.
 use mathlib.Core.Path.{_≡_, refl}
-use Prim.Native.Nat.{ℕ, _*_, _-_, _/_, _%_, _^_, _≤_, _<_, zero-le}
-use native.Mathlib.Nat.{lt-of-lt-of-le, lt-of-le-of-lt, mod-eq-of-lt}
+use Prim.Native.Nat.{_*_, _-_, _/_, _%_, _^_, _≤_, _<_, zero-le}
+use native.Mathlib.Nat.{lt-of-lt-of-le}
 use native.Mathlib.Omega.{arith}
-use lib.Dec.{lit<}
+use lib.Dec.{lit≤}
 use Rattle.algebra.specs.Matrix.{tabulate}
-use Rattle.field.specs.Polynomial.{Modulus, degree}
+use Rattle.field.specs.Polynomial.{degree}
 use Rattle.field.proofs.Degrees.{polynomial}
-use Rattle.field.proofs.Calls.{elements-most}
+use Rattle.field.proofs.Calls.{elements-most, shifted-width}
 use Rattle.matrix.specs.Depths.{onesInLine}
 use Rattle.matrix.specs.Steps.Blocks.{filledTo}
 use Rattle.matrix.specs.Steps.Figures.{onesTable}
@@ -31,18 +31,12 @@ cast-end c = search needs
 shl-end : tie.Need-shl-end Inv-loop μ-loop
 shl-end c = omega (arith, c .degree .ensures, polynomial (c .before .args .p) (c .before .pre) .most)
 
--- the end of the elements, as the code has it
-end-is : (p m : ℕ) → Modulus p → m ≡ degree p → 8 * 2 ^ m % 2 ^ 64 ≡ 8 * 2 ^ degree p
-end-is p m h e =
-    let most : 8 * 2 ^ degree p ≤ 2048 = omega (arith, elements-most p h) in
-    rw e (mod-eq-of-lt (lt-of-le-of-lt most (lit< tt)))
-
 loop-holds : tie.Need-loop-holds Inv-loop μ-loop
 unfolding tabulate
 loop-holds c =
     let p = c .before .args .p in
     let h = c .before .pre in
-    let is = end-is p _ h (c .degree .ensures) in
+    let is = shifted-width 8 p _ h (lit≤ tt) (c .degree .ensures) in
     (is, omega (arith, is, elements-most p h), zero-le, refl)
 
 -- the entry's element

@@ -18,17 +18,22 @@ is-good-requires c κs =
     let eight : length (c .args .row) ≡ 8 = search needs in
     (w .modulus, w .order, w .inField, last-one (c .args .row) n (order-least n (w .order)) (omega (arith, order-most n (w .order))) (w .ends), w .stands, c .pre .4)
 
-line-depth-requires : tie.Need-line-depth-requires
-line-depth-requires c κs =
+line-figure-requires : tie.Need-line-figure-requires
+line-figure-requires c κs =
     let pre = c .before .before .pre in
     (pre .0 .modulus, order-most _ (pre .0 .order), pre .0 .inField, pre .1, pre .2)
 
+depth-requires : tie.Need-depth-requires
+depth-requires c κs = search needs
+
 returns : tie.Need-returns
 returns c =
-    let s = c .before .before .before in
+    let figure = c .before .before .line-figure in
+    let good = c .before .before .before in
+    let s = good .before .before in
     let a = s .args in
-    kept-row (s .pre .0) (c .line-depth .result) (c .line-depth .ensures)
-    ∙ ap (λ t. kept (a .p) (a .n) (cond t (found (take (a .n) (a .row))) (bestAs (a .n) (a .best)))) (sym (sym (c .before .before .is-good .ensures) ∙ c .before .if1 .taken))
+    kept-row (s .pre .0) (figure .result) (figure .ensures) (c .depth .result) (c .depth .ensures)
+    ∙ ap (λ t. kept (a .p) (a .n) (cond t (found (take (a .n) (a .row))) (bestAs (a .n) (a .best)))) (sym (sym (good .before .is-good .ensures) ∙ good .if1 .taken))
 
 returns-2 : tie.Need-returns-2
 returns-2 c =
@@ -38,4 +43,4 @@ returns-2 c =
     ∙ ap (λ t. kept (a .p) (a .n) (cond t (found (take (a .n) (a .row))) (bestAs (a .n) (a .best)))) (sym (sym (c .before .is-good .ensures) ∙ c .if1 .left))
 
 pub finish-spec : {M : Type 1} → statement M
-finish-spec = tie.close (tie.spec is-good-requires line-depth-requires returns returns-2)
+finish-spec = tie.close (tie.spec is-good-requires line-figure-requires depth-requires returns returns-2)
