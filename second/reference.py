@@ -1,5 +1,6 @@
-"""The reference lines of document 01, with the counts of request One, the gates of request Two, the order of request Three and the
-rows of request Four, as whole request and answer texts; a text for each refusal."""
+"""The reference lines of document 01, with the counts of request One, the gates of request Two, the order of request Three, the
+rows of request Four and the worked example of request Five, as whole request and answer texts, its products also as numbers; a text for
+each refusal."""
 from rowtext import ALWAYS_ZERO, CHECK, GATES, SEARCH, SURVEY, circulant, hadamard, line, request
 
 WORKED_REQUEST = b"     1    19     4     4\n     1     4     9    13\n"
@@ -144,6 +145,32 @@ def gate_lines():
     yield "gates of the FIPS 197 matrix", request(GATES, 283, 4, circulant([2, 3, 1, 1])), gate_text(32, fips_joined())
 
 
+# FIPS 197 (2001), section 4.2.1: {57} doubled 0 to 7 times over m(x) = 283. The standard prints the values up to {07}.
+DOUBLED = (0x57, 0xAE, 0x47, 0x8E, 0x07, 0x0E, 0x1C, 0x38)
+
+
+def worked_products():
+    """(polynomial, factor, factor, product): the worked example of FIPS 197, with each doubled value, also from the one before."""
+    for k, value in enumerate(DOUBLED):
+        yield 283, 0x57, 1 << k, value
+    for value, after in zip(DOUBLED, DOUBLED[1:]):
+        yield 283, value, 2, after
+    yield 283, 0x57, 0x13, 0xFE  # {57} + {ae} + {07}
+    yield 283, 0x57, 0x83, 0xC1  # {57} + {ae} + {38}
+
+
+def product_lines():
+    """The worked example, seen through texts: bit b of {57} times x joins the bits k of x where the value doubled k times has bit b,
+    and a × b = c exactly if the matrix s a / b s is an involution, s × s = c + 1."""
+    joined = [[k for k, value in enumerate(DOUBLED) if value >> bit & 1] for bit in range(8)]
+    yield "{57}, doubled 0 to 7 times", request(GATES, 283, 1, [0x57]), gate_text(8, joined)
+    counts = {0x57: 22, 0x13: 19, 0x83: 21, 0x4E: 15, 0x99: 23}
+    for b, s in ((0x13, 0x4E), (0x83, 0x99)):
+        matrix = [s, 0x57, b, s]
+        answer = line([0, 3, 1, 1, sum(counts[a] for a in matrix) + 2 * 8])
+        yield f"{{57}} × {{{b:x}}} over 283", request(CHECK, 283, 2, matrix), answer
+
+
 def limit_lines():
     """Limits of polynomial, order and count."""
     for polynomial, number in [(3, 3), (7, 9), (21, 4), (511, 4), (512, 3)]:
@@ -158,7 +185,8 @@ def limit_lines():
 
 def reference_lines():
     """(name, request text, answer text)"""
-    for part in (search_lines, depth_lines, check_lines, zero_lines, survey_lines, field_lines, gate_lines, limit_lines):
+    parts = (search_lines, depth_lines, check_lines, zero_lines, survey_lines, field_lines, gate_lines, product_lines, limit_lines)
+    for part in parts:
         yield from part()
 
 

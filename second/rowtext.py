@@ -187,6 +187,17 @@ def field_product(p, a, b):
     return result
 
 
+def product_steps(p, a, b):
+    """The steps of a times b in the order of FIPS 197 (2001), section 4.2.1: for each bit of b, the lowest first, its power of 2 and
+    the doubled value, then the bits up to it and the sum after them."""
+    m, doubled, total = degree(p), a, 0
+    for k in range(m):
+        total ^= doubled * (b >> k & 1)
+        yield 1 << k, doubled
+        yield b % (2 << k), total
+        doubled = doubled << 1 ^ p * (doubled >> (m - 1))
+
+
 def inverse(p, a):
     """The element whose product with a is 1."""
     return next(b for b in range(1, 1 << degree(p)) if field_product(p, a, b) == 1)

@@ -183,4 +183,33 @@ mod tests {
         let g = Field::new(31);
         assert_eq!((0..5).fold(1, |power, _| g.product(power, 2)), 1);
     }
+
+    /// FIPS 197 (2001), section 4.2.1: {57} doubled again and again, and two products, with the sum after each bit.
+    #[test]
+    fn worked_example_of_the_standard() {
+        let f = Field::new(0x11b);
+        let doubled: Vec<u8> = (0..8).map(|k| f.product(0x57, 1 << k)).collect();
+        assert_eq!(doubled, [0x57, 0xae, 0x47, 0x8e, 0x07, 0x0e, 0x1c, 0x38]);
+        assert!(doubled.windows(2).all(|pair| f.product(pair[0], 2) == pair[1]));
+        let sums = |b: u8| [1, 2, 4, 5, 8].map(|k| f.product(0x57, (b as u16 % (1 << k)) as u8));
+        assert_eq!(sums(0x13), [0x57, 0xf9, 0xf9, 0xfe, 0xfe]);
+        assert_eq!(sums(0x83), [0x57, 0xf9, 0xf9, 0xf9, 0xc1]);
+    }
+
+    /// Doubling as that section has it: a left shift, and where the degree is reached the polynomial is subtracted.
+    #[test]
+    fn products_are_sums_of_doubled_values() {
+        for p in sieve() {
+            let f = Field::new(p);
+            let double = |x: u32| (x << 1) ^ if (x << 1) >> f.degree & 1 == 1 { p } else { 0 };
+            for a in 0..f.size as u8 {
+                let doubled: Vec<u32> =
+                    std::iter::successors(Some(a as u32), |&x| Some(double(x))).take(f.degree).collect();
+                for b in 0..f.size as u8 {
+                    let selected = (0..f.degree).filter(|k| b >> k & 1 == 1);
+                    assert_eq!(f.product(a, b) as u32, selected.fold(0, |sum, k| sum ^ doubled[k]));
+                }
+            }
+        }
+    }
 }

@@ -17,6 +17,7 @@ use Rattle.refusal.specs.Refusals.{firstNumber, Answer, answer, unlessRefused, 
 use Rattle.refusal.proofs.Faults.{after-left, after-number-is}
 use lib.Count.{ones, onesIn}
 use Rattle.field.specs.Polynomial.{_⊕_, _⊗_, digitsWithin, overDigits, degree, reduce, rem, product, onesInColumns, xorCount, someBelow, Irreducible, isIrreducible, firstBelow}
+use Rattle.field.specs.Doubling.{xtime, doubled, sumAfter}
 use Rattle.field.proofs.Irreducibility.{irreducible-to}
 use Rattle.field.specs.Table.{polynomials, passing}
 use Rattle.field.specs.Faults.{isOutside, isTooLarge, polynomialFaults, inverseFaults}
@@ -38,7 +39,7 @@ use Rattle.text.proofs.Form.{six-none, six-more}
 use Rattle.text.proofs.Requests.{ReadAs, written-read}
 use Rattle.answer.specs.Due.{request, rowLines, bestLines, search, checkFaults, entriesOf, checkLines, check, surveyFaults, surveyLine, surveyLines, survey, gateLines, gates, kinds, kindAmong, dueTo, kindIn, requestIn, faultsOf, due}
 use Rattle.answer.specs.Answered.{textOf}
-use Rattle.answer.specs.Reference.{ReferenceLine, texts, power, ReferenceSays, AllReferenceSay, all-none, _and_, elementLines, searches, depthLines, checks, surveys, surveyTexts, gateLists, gateTexts, refusals, from-one, limits, bytesOf, example, referenceLines}
+use Rattle.answer.specs.Reference.{ReferenceLine, texts, power, ReferenceSays, AllReferenceSay, all-none, _and_, elementLines, productSteps, searches, depthLines, checks, surveys, surveyTexts, gateLists, gateTexts, refusals, from-one, limits, bytesOf, example, referenceLines}
 
 -- ---- from the numbers of a request to its text
 
@@ -98,6 +99,10 @@ and-texts d h e rest = _and_ {line = texts _ _} (ap (λ (d : Answer (List (List 
 elements-hold : AllReferenceSay elementLines
 unfolding ReferenceSays elementLines power det sum without skip entriesOf matrixCount rowCount elementCount additionCount total weight tabulate xorCount onesInColumns ones onesIn product rem reduce degree overDigits digitsWithin _⊗_ _⊕_
 elements-hold = refl and refl and refl and refl and refl and refl and refl and refl and refl and refl and all-none
+
+product-steps-hold : AllReferenceSay productSteps
+unfolding ReferenceSays productSteps tabulate doubled sumAfter xtime bit product rem reduce degree overDigits digitsWithin _⊗_ _⊕_
+product-steps-hold = refl and refl and refl and refl and refl and refl and refl and refl and refl and refl and all-none
 
 searches-hold : AllReferenceSay searches
 unfolding ReferenceSays searches fits allSix isOutside isIrreducible someBelow searchFaults polynomialFaults firstNumber isWrongSearchOrder isWrongSearchCount someTooLarge isTooLarge someBad someRepeated member sumOf rowLines rowCount elementCount additionCount total weight tabulate xorCount onesInColumns ones onesIn product rem reduce degree overDigits digitsWithin _⊗_ _⊕_
@@ -222,7 +227,7 @@ lines-hold =
     all-append
     (all-append
     (all-append
-    (all-append (all-append (all-append (all-append (all-append (all-append (all-append elements-hold searches-hold) depths-hold) checks-hold) surveys-hold) survey-texts-hold) gate-lists-hold) gate-texts-hold)
+    (all-append (all-append (all-append (all-append (all-append (all-append (all-append (all-append elements-hold product-steps-hold) searches-hold) depths-hold) checks-hold) surveys-hold) survey-texts-hold) gate-lists-hold) gate-texts-hold)
     refusals-hold)
     limits-hold)
     example-holds

@@ -1,14 +1,15 @@
 -- The reference lines of document 01 that are marked P, as one table, with the limits of its last point, its example of a search,
--- whole, the gate lists of request Two, surveys in the order of request Three, the depths of request Four, and lines that tell apart what the others cannot. Assumes nothing.
+-- whole, the gate lists of request Two, surveys in the order of request Three, the depths of request Four, the steps of request Five, and lines that tell apart what the others cannot. Assumes nothing.
 use mathlib.Core.Path.{_≡_}
 use mathlib.Core.Logic.{_≢_}
 use mathlib.Core.List.{List, [], _∷_, _++_, map, foldl}
 use Prim.Native.Nat.{ℕ, zero, suc}
 use Prim.Native.Char.{code}
 use Prim.Native.String.{String, len, charAt}
-use lib.ListN.{replicate}
+use lib.ListN.{length, replicate}
 use Rattle.algebra.specs.Matrix.{tabulate, det}
 use Rattle.field.specs.Polynomial.{_⊕_, degree, product, xorCount}
+use Rattle.field.specs.Doubling.{doubled, sumAfter}
 use Rattle.field.specs.Faults.{inverseFaults}
 use Rattle.matrix.specs.Numbers.{numbers}
 use Rattle.matrix.specs.Counts.{matrixCount}
@@ -29,6 +30,10 @@ pub data ReferenceLine : Type 0 where
   -- over the polynomial the product of two elements is this, and an element to this power is this
   products : ℕ → ℕ → ℕ → ℕ → ReferenceLine
   powers : ℕ → ℕ → ℕ → ℕ → ReferenceLine
+  -- over the polynomial this element, doubled 0, 1, 2, .. times, is these
+  doublings : ℕ → ℕ → List ℕ → ReferenceLine
+  -- over the polynomial the product of two elements has these sums after 0, 1, 2, .. bits of the second
+  partial-sums : ℕ → ℕ → ℕ → List ℕ → ReferenceLine
   -- these elements exclusive-or to this
   sums : List ℕ → ℕ → ReferenceLine
   -- over the polynomial the matrix of this order with these entries has this determinant
@@ -66,6 +71,8 @@ unfoldable pub ReferenceSays : ReferenceLine → Type 0
 ReferenceSays (counts p elements numbers) = map (xorCount p) elements ≡ numbers
 ReferenceSays (products p a b c) = product p a b ≡ c
 ReferenceSays (powers p a k c) = power p a k ≡ c
+ReferenceSays (doublings p a values) = tabulate (length values) (doubled p a) ≡ values
+ReferenceSays (partial-sums p a b values) = tabulate (length values) (sumAfter p a b) ≡ values
 ReferenceSays (sums elements total) = foldl _⊕_ 0 elements ≡ total
 ReferenceSays (determinants p n entries c) = det (numbers p) n (entriesOf n entries) ≡ c
 ReferenceSays (matrix-counts p n entries c) = matrixCount p n (entriesOf n entries) ≡ c
@@ -98,6 +105,22 @@ elementLines =
     matrix-counts 283 4 (2 ∷ 3 ∷ 1 ∷ 1 ∷ 1 ∷ 2 ∷ 3 ∷ 1 ∷ 1 ∷ 1 ∷ 2 ∷ 3 ∷ 3 ∷ 1 ∷ 1 ∷ 2 ∷ []) 152 ∷
     matrix-counts 395 8 (replicate 64 251) 3136 ∷
     matrix-counts 283 4 (2 ∷ 3 ∷ 1 ∷ 1 ∷ 0 ∷ 2 ∷ 3 ∷ 1 ∷ 0 ∷ 0 ∷ 2 ∷ 3 ∷ 0 ∷ 0 ∷ 0 ∷ 2 ∷ []) 93 ∷
+    []
+
+-- the worked example of FIPS 197 (2001), section 4.2.1 (document 02, Five): {57}, {ae}, {47}, {8e}, {07} and three doubled values more; the products
+-- {57} • {13} = {fe} and {57} • {83} = {c1}, with the sum after each bit; and values of another degree
+unfoldable pub productSteps : List ReferenceLine
+productSteps =
+    doublings 283 87 (87 ∷ 174 ∷ 71 ∷ 142 ∷ 7 ∷ 14 ∷ 28 ∷ 56 ∷ []) ∷
+    products 283 87 2 174 ∷
+    products 283 87 4 71 ∷
+    products 283 87 8 142 ∷
+    products 283 87 16 7 ∷
+    partial-sums 283 87 19 (0 ∷ 87 ∷ 249 ∷ 249 ∷ 249 ∷ 254 ∷ []) ∷
+    products 283 87 19 254 ∷
+    partial-sums 283 87 131 (0 ∷ 87 ∷ 249 ∷ 249 ∷ 249 ∷ 249 ∷ 249 ∷ 249 ∷ 193 ∷ []) ∷
+    products 283 87 131 193 ∷
+    doublings 19 9 (9 ∷ 1 ∷ 2 ∷ 4 ∷ []) ∷
     []
 
 -- searches over 19, order 4
@@ -230,4 +253,4 @@ example =
 
 -- the table
 unfoldable pub referenceLines : List ReferenceLine
-referenceLines = elementLines ++ searches ++ depthLines ++ checks ++ surveys ++ surveyTexts ++ gateLists ++ gateTexts ++ refusals ++ limits ++ example
+referenceLines = elementLines ++ productSteps ++ searches ++ depthLines ++ checks ++ surveys ++ surveyTexts ++ gateLists ++ gateTexts ++ refusals ++ limits ++ example

@@ -7,6 +7,8 @@ use native.Mathlib.Decide.{decLe}
 use native.Mathlib.Omega.{arith}
 use lib.Arith.{bin-ind}
 use lib.Pow.{pow-pos, pow-mono}
+use lib.Bits.{bitOr, and-mask, or-add-and}
+use lib.Count.{leadingZeros, leading-top}
 use Rattle.field.specs.Polynomial.{_⊕_, _⊗_, digitsWithin, overDigits, degree, Modulus}
 use Rattle.field.proofs.Sum.{at-digit, sum-comm, sum-lt, sum-top}
 use Rattle.field.proofs.Ring.{digits-suc, product-step, product-one-l}
@@ -107,7 +109,7 @@ pub product-le : (j a b : ℕ) → 0 < a → HasDegree b j → 2 ^ j ≤ a ⊗ b
 product-le j a b h e =
     le-trans (pow-mono (omega arith)) (product-degree (degree a) j a b (has-degree a h) e .low)
 
--- ---- the degree by halving
+-- ---- the degree of a number of k + 1 bits
 
 pub degree-small : (p : ℕ) → p < 2 → degree p ≡ 0
 unfolding degree overDigits digitsWithin
@@ -115,11 +117,24 @@ degree-small zero h = refl
 degree-small (suc zero) h = refl
 degree-small (suc (suc p)) h = let z : ⊥ = omega arith in absurd z
 
-pub degree-half : (p : ℕ) → 2 ≤ p → degree p ≡ suc (degree (p / 2))
-degree-half p h = degree-is p (suc (degree (p / 2))) (from (has-degree (p / 2) (omega arith)))
+-- the lowest bit set: an even number gets one more
+or-one : (p : ℕ) → bitOr p 1 + p % 2 ≡ p + 1
+or-one p = ap (λ (x : ℕ). bitOr p 1 + x) (sym (and-mask p 1)) ∙ or-add-and p 1
+
+-- which keeps the degree
+degree-or-one : (p : ℕ) → degree (bitOr p 1) ≡ degree p
+degree-or-one zero = degree-small (bitOr 0 1) (omega (arith, or-one 0)) ∙ sym (degree-small 0 (omega arith))
+degree-or-one (suc p) = degree-is (bitOr (suc p) 1) (degree (suc p)) (kept (degree (suc p)) (has-degree (suc p) (omega arith)))
   where
-    from : HasDegree (p / 2) (degree (p / 2)) → HasDegree p (suc (degree (p / 2)))
-    from d = record { low = omega (arith, pow-suc 2 (degree (p / 2))); high = omega (arith, pow-suc 2 (suc (degree (p / 2)))) }
+    kept : (m : ℕ) → HasDegree (suc p) m → HasDegree (bitOr (suc p) 1) m
+    kept m d = record { low = omega (arith, or-one (suc p)); high = omega (arith, or-one (suc p), pow-suc 2 m) }
+
+-- and leaves no number without a set bit: above the highest stand the leading zeros
+pub degree-leading : (k p : ℕ) → p < 2 ^ suc k → leadingZeros (suc k) (bitOr p 1) + degree p ≡ k
+degree-leading k p h =
+    let (j, is, low, high) = leading-top (suc k) (bitOr p 1) (omega (arith, or-one p)) (omega (arith, or-one p, pow-suc 2 k)) in
+    let same : degree p ≡ j = sym (degree-or-one p) ∙ degree-is (bitOr p 1) j (record { low = low; high = high }) in
+    omega arith
 
 pub degree-lt : (p k : ℕ) → p < 2 ^ suc k → degree p ≤ k
 degree-lt zero k h = omega (arith, degree-small 0 (omega arith))

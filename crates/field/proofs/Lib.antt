@@ -4,6 +4,7 @@ pub mod Ring
 pub mod Degrees
 pub mod Division
 pub mod Field
+pub mod Doubling
 pub mod Inverses
 pub mod Irreducibility
 pub mod Completeness

@@ -1,5 +1,6 @@
 -- The definitions that the contracts of `field` cite, and what document 01 says of refusals. To be believed: all but Steps.
 pub mod Polynomial
+pub mod Doubling
 pub mod Table
 pub mod Faults
 pub mod Stated

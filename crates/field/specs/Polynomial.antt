@@ -14,6 +14,10 @@ infixl 68 _⊕_
 infixl 69 _⊗_
 -- ---- polynomials
 
+-- bit b of a number: the coefficient of x^b
+unfoldable pub bit : ℕ → ℕ → ℕ
+bit b a = a / 2 ^ b % 2
+
 -- a sum: the exclusive or
 unfoldable pub _⊕_ : ℕ → ℕ → ℕ
 a ⊕ b = bitXor a b

@@ -8,7 +8,7 @@ ghost use lib.Dec.{eqb};
 ghost use mathlib.Core.List.{[], _∷_};
 ghost use Rattle.refusal.specs.Refusals.{fault, answerAfter, answerOf};
 ghost use Rattle.field.specs.Faults.{isTooLarge, polynomialFaults, productFaults, inverseFaults, countFaults};
-ghost use Rattle.field.specs.Polynomial.{Modulus, degree, isIrreducible, reduce, rem, product, inverse, xorCount, Products};
+ghost use Rattle.field.specs.Polynomial.{Modulus, degree, isIrreducible, rem, product, inverse, xorCount, Products};
 use refusal::Outcome;
 use refusal::Refusal;
 
@@ -104,46 +104,42 @@ pub fn irreducible(p: u16) -> bool
 pub fn degree(p: u16) -> u16
     ensures { λ r. ⌜ r ≡ degree p ⌝ }
 {
-    let mut x = p;
-    let mut m: u16 = 0;
-    while 1 < x {
-        x >>= 1;
-        m += 1;
-    }
-    m
+    15 - u16::leading_zeros(p | 1) as u16
 }
 
-// One step of long division: the polynomial is subtracted where that makes x smaller.
-fn reduce(p: u16, x: u16) -> u16
-    ensures { λ r. ⌜ r ≡ reduce p x ⌝ }
-{
-    let y = x ^ p;
-    if y < x { y } else { x }
-}
+// ---- the product in the steps of FIPS 197 (2001), section 4.2.1, with p in the place of the standard's m(x)
 
-// An element doubled: shifted, and reduced where it reaches the degree.
+// Multiplication by x, the second paragraph's xtime(): "a left shift and a subsequent conditional bitwise XOR".
 fn double(p: u16, x: u16) -> u16
     requires { ⌜ Modulus p × (x < 2 ^ degree p) ⌝ }
     ensures { λ r. ⌜ r ≡ rem p (x * 2) ⌝ }
 {
-    reduce(p, x << 1)
+    // "If b7 = 1", second paragraph: the highest bit of an element, which the shift moves to the place of the degree.
+    let reached = x >> (degree(p) - 1) & 1;
+    // "subtracting (i.e., XORing) the polynomial", second paragraph: all of it, since no bit is shifted out.
+    x << 1 ^ reached * p
 }
 
-// The product: a, doubled again and again, is added where b has a set bit.
+// The product: a is doubled again and again, and the values that the bits of b select are added, the lowest bit first.
 pub fn product(p: u16, a: u8, b: u8) -> u8
     requires { ⌜ Modulus p × (a < 2 ^ degree p) ⌝ }
     ensures { λ r. ⌜ r ≡ product p a b ⌝ }
 {
-    let mut x = a as u16;
-    let mut y = b as u16;
-    let mut r: u16 = 0;
-    while y != 0 {
-        r ^= (y & 1) * x;
-        x = double(p, x);
-        y >>= 1;
+    let mut doubled = a as u16;
+    let mut bits = b as u16;
+    // The example's {01}, third paragraph: a itself, where the lowest bit is set.
+    let mut sum = (bits & 1) * doubled;
+    while 1 < bits {
+        // "repeated application of xtime()", second paragraph.
+        doubled = double(p, doubled);
+        bits >>= 1;
+        // "By adding intermediate results", second paragraph.
+        sum ^= (bits & 1) * doubled;
     }
-    r as u8
+    sum as u8
 }
+
+// ---- products by half and by table
 
 // The product of a and b from that of a and half of b: doubled, and a is added where b is odd.
 fn product_by_half(p: u16, a: u8, b: u8, half: u8) -> u8
@@ -178,6 +174,8 @@ pub fn times(p: u16, products: &[u8; 65536], a: u8, b: u8) -> u8
     products[a as usize * 256 + b as usize]
 }
 
+// ---- inverses and counts
+
 // The element whose product with a is 1.
 pub fn inverse(p: u16, a: u8) -> u8
     requires { ⌜ Modulus p × (0 < a) × (a < 2 ^ degree p) ⌝ }
@@ -209,6 +207,8 @@ pub fn xor_count(p: u16, a: u8) -> u16
     }
     ones - m
 }
+
+// ---- the calls, which refuse wrong arguments
 
 // The degree of a polynomial that is in range and irreducible.
 pub fn checked_degree(p: u32) -> Outcome

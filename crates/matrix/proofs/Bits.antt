@@ -1,17 +1,18 @@
 -- The bits of a number: those of a sum, of a product, and how many are 1. Bit b of a times x is the exclusive or, over the bits k of x, of bit k of
 -- x times bit b of a·2^k (`bit-product`). Assumes nothing.
-use mathlib.Core.Path.{_≡_, refl, sym, ap, _∙_}
+use mathlib.Core.Path.{_≡_, refl, sym, ap, ap₂, _∙_}
 use Prim.Native.Nat.{ℕ, zero, suc, _+_, _*_, _/_, _%_, _^_, _<_}
-use native.Mathlib.Nat.{zero-mul, one-mul, zero-div, mod-one, mod-lt, mod-eq-of-lt, suc-add, zero-add, div-self, add-comm}
-use lib.Bits.{differ, xor-shifted}
+use native.Mathlib.Nat.{zero-mul, one-mul, zero-div, mod-one, mod-lt, mod-eq-of-lt, div-self, add-comm}
+use lib.Bits.{differ}
 use lib.Count.{ones, onesIn, ones-cat}
-use lib.Pow.{pow-pos, mod-pow-add}
+use lib.Pow.{pow-pos}
 use Rattle.algebra.specs.Matrix.{sum}
-use Rattle.algebra.proofs.Sums.{Naturals, sum-cong}
+use Rattle.algebra.proofs.Sums.{Naturals}
 use Rattle.field.specs.Polynomial.{_⊕_, product}
-use Rattle.field.proofs.Sum.{at-digit, sum-shr, sum-digit, sum-comm}
+use Rattle.field.proofs.Sum.{at-digit, sum-shr, sum-digit}
 use Rattle.field.proofs.Degrees.{HasDegree}
-use Rattle.field.proofs.Field.{times-zero-r, times-sum-r}
+use Rattle.field.proofs.Field.{times-zero-r}
+use Rattle.field.proofs.Doubling.{low-more, times-low-more}
 use Rattle.matrix.specs.Numbers.{numbers}
 use Rattle.matrix.specs.Depths.{bit}
 
@@ -52,24 +53,6 @@ bit-times b c x a =
 
 -- ---- a number and its bits
 
--- the lowest k + 1 bits
-low-more : (k x : ℕ) → x % 2 ^ suc k ≡ bit k x * 2 ^ k + x % 2 ^ k
-unfolding bit
-low-more k x = ap (λ (e : ℕ). x % 2 ^ e) (sym (suc-add 0 k ∙ ap suc (zero-add k))) ∙ mod-pow-add x 1 k
-
-low-bits : (p k x : ℕ) → sum (numbers p) k (λ j. bit j x * 2 ^ j) ≡ x % 2 ^ k
-unfolding sum
-low-bits p zero x = sym (mod-one x)
-low-bits p (suc k) x =
-    ap (λ (s : ℕ). s ⊕ bit k x * 2 ^ k) (low-bits p k x)
-    ∙ sum-comm (x % 2 ^ k) (bit k x * 2 ^ k)
-    ∙ unfold _⊕_ in xor-shifted (bit k x) k (x % 2 ^ k) (mod-lt x (pow-pos k))
-    ∙ sym (low-more k x)
-
--- a number below 2^m is the sum of its bits, each at its place
-pub bits-whole : (p m x : ℕ) → x < 2 ^ m → sum (numbers p) m (λ j. bit j x * 2 ^ j) ≡ x
-bits-whole p m x h = low-bits p m x ∙ mod-eq-of-lt h
-
 low-ones : (k x : ℕ) → sum Naturals k (λ j. bit j x) ≡ ones (x % 2 ^ k)
 unfolding sum ones onesIn
 low-ones zero x = sym (ap ones (mod-one x))
@@ -80,30 +63,22 @@ low-ones (suc k) x =
     ∙ sym (ones-cat k (bit k x) (x % 2 ^ k) (mod-lt x (pow-pos k)))
     ∙ ap ones (sym (low-more k x))
 
--- and has as many ones as bits that are 1
+-- a number below 2^m has as many ones as bits that are 1
 pub bits-ones : (m x : ℕ) → x < 2 ^ m → sum Naturals m (λ j. bit j x) ≡ ones x
 bits-ones m x h = low-ones m x ∙ ap ones (mod-eq-of-lt h)
 
 -- ---- products
 
 module _ (p m : ℕ) (d : HasDegree p m) where
-  times-sums : (a n : ℕ) (f : ℕ → ℕ) → product p a (sum (numbers p) n f) ≡ sum (numbers p) n (λ k. product p a (f k))
+  -- the lowest k bits of the second factor
+  low-product : (a x b k : ℕ) → bit b (product p a (x % 2 ^ k)) ≡ sum (numbers p) k (λ j. bit j x * bit b (product p a (2 ^ j)))
   unfolding sum
-  times-sums a zero f = times-zero-r p a
-  times-sums a (suc n) f =
-      times-sum-r p m d a (sum (numbers p) n f) (f n) ∙ ap (λ (x : ℕ). x ⊕ product p a (f n)) (times-sums a n f)
-
-  times-bit : (a c x k : ℕ) → product p a (bit c x * k) ≡ bit c x * product p a k
-  times-bit a c x k =
-      at-bit (λ e. product p a (e * k) ≡ e * product p a k) (rw (zero-mul k, zero-mul (product p a k)) (times-zero-r p a))
-      (rw (one-mul k, one-mul (product p a k)) refl)
-      c
-      x
+  low-product a x b zero = ap (bit b) (ap (product p a) (mod-one x) ∙ times-zero-r p a) ∙ bit-zero b
+  low-product a x b (suc k) =
+      ap (bit b) (times-low-more p m d a x k)
+      ∙ bit-sum b (product p a (x % 2 ^ k)) (bit k x * product p a (2 ^ k))
+      ∙ ap₂ _⊕_ (low-product a x b k) (bit-times b k x (product p a (2 ^ k)))
 
   -- bit b of a product, by the bits of the second factor
   pub bit-product : (a x b : ℕ) → x < 2 ^ m → bit b (product p a x) ≡ sum (numbers p) m (λ k. bit k x * bit b (product p a (2 ^ k)))
-  bit-product a x b h =
-      ap (λ (y : ℕ). bit b (product p a y)) (sym (bits-whole p m x h))
-      ∙ ap (bit b) (times-sums a m (λ k. bit k x * 2 ^ k))
-      ∙ bit-sums p m b (λ k. product p a (bit k x * 2 ^ k))
-      ∙ sum-cong (numbers p) m _ _ (λ k l. ap (bit b) (times-bit a k x (2 ^ k)) ∙ bit-times b k x (product p a (2 ^ k)))
+  bit-product a x b h = ap (λ (y : ℕ). bit b (product p a y)) (sym (mod-eq-of-lt h)) ∙ low-product a x b m

@@ -3,10 +3,8 @@ use Prim.Native.Nat.{ℕ, zero, suc, _/_, _%_, _^_, max}
 use lib.Dec.{leb}
 use Rattle.field.specs.Polynomial.{degree, product, firstBelow}
 use Rattle.matrix.specs.Counts.{total}
-
 -- bit b of a number
-unfoldable pub bit : ℕ → ℕ → ℕ
-bit b a = a / 2 ^ b % 2
+unfoldable pub use Rattle.field.specs.Polynomial.{bit}
 
 -- the ones of an element for output bit b: those in line b of its bit matrix, whose column k is a times 2^k
 unfoldable pub onesInLine : ℕ → ℕ → ℕ → ℕ
