@@ -1,4 +1,5 @@
--- The definitions that the contracts of `field` cite, and what document 01 says of refusals. To be believed: all but Steps.
+-- The definitions that the contracts of `field` cite, the product in the order of FIPS 197, and what document 01 says of refusals. To be believed: all but
+-- Steps.
 pub mod Polynomial
 pub mod Doubling
 pub mod Table

@@ -100,7 +100,7 @@ pub fn irreducible(p: u16) -> bool
     false
 }
 
-// The place of the highest set bit.
+// The place of the highest set bit; 0 for 0, as for 1.
 pub fn degree(p: u16) -> u16
     ensures { λ r. ⌜ r ≡ degree p ⌝ }
 {

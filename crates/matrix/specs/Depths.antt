@@ -1,9 +1,9 @@
 -- The depth of a circuit that adds up the ones of output bits (document 02, Four). To be believed. Assumes nothing.
-use Prim.Native.Nat.{ℕ, zero, suc, _/_, _%_, _^_, max}
+use Prim.Native.Nat.{ℕ, zero, suc, _^_, max}
 use lib.Dec.{leb}
 use Rattle.field.specs.Polynomial.{degree, product, firstBelow}
 use Rattle.matrix.specs.Counts.{total}
--- bit b of a number
+-- bit b of a number, passed on to the crates above
 unfoldable pub use Rattle.field.specs.Polynomial.{bit}
 
 -- the ones of an element for output bit b: those in line b of its bit matrix, whose column k is a times 2^k

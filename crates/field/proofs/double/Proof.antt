@@ -30,9 +30,9 @@ mul-result : tie.Need-mul-result
 mul-result c = record { fits = selected (c .before .args .x / 2 ^ (c .degree .result - 1)) (c .before .args .p) 16 (omega arith) }
 
 -- the bit that the shift moves to the place of the degree
-reached : (p m x d : ℕ) → 2 ≤ m → d ≡ m → bitAnd (x / 2 ^ (d - 1)) 1 ≡ bit m (x * 2)
+reached : (m x d : ℕ) → 2 ≤ m → d ≡ m → bitAnd (x / 2 ^ (d - 1)) 1 ≡ bit m (x * 2)
 unfolding bit
-reached p m x d h e =
+reached m x d h e =
     let above : suc (d - 1) ≡ m = omega arith in
     and-mask (x / 2 ^ (d - 1)) 1 ∙ sym (bit-double (d - 1) x) ∙ ap (λ (k : ℕ). x * 2 / 2 ^ k % 2) above
 
@@ -43,7 +43,7 @@ returns c =
     let x = c .before .args .x in
     let pre = c .before .pre in
     let poly = polynomial p (pre .0) in
-    ap₂ (λ (y d : ℕ). y ⊕ d * p) (mod-eq-of-lt (shifted x (degree p) (pre .1) (poly .most))) (reached p (degree p) x (c .degree .result) (poly .least) (c .degree .ensures))
+    ap₂ (λ (y d : ℕ). y ⊕ d * p) (mod-eq-of-lt (shifted x (degree p) (pre .1) (poly .most))) (reached (degree p) x (c .degree .result) (poly .least) (c .degree .ensures))
     ∙ xtime-rem p x (omega (arith, pre .0 .low)) (pre .1)
 
 pub double-spec : {M : Type 1} → statement M
