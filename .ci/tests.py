@@ -341,6 +341,8 @@ class Ask(Place):
             self.refused(2, words.split())
         for words in ("gates 7 --verilog 1 3", "gates --vhdl 7 1 3", "check --verilog 7 1 3", "--verilog 7 1 3"):
             self.refused(2, words.split())
+        for words in ("circulant", "circulant 7", "circulant 7 x 1", "circulant --verilog 7 2 2 3", "circulants 7 2 2 3"):
+            self.refused(2, words.split())
         for word in ("1000000", "9" * 5000, "0x" + "f" * 5000, "x" * 5000, "1\n2", "\udcff"):
             self.assertLess(len(self.refused(2, ["survey", word])), 120)
         self.refused(2, ["search", "19", "4"] + ["1"] * 672)
@@ -350,6 +352,7 @@ class Ask(Place):
             status, shown, said = self.asked(words)
             self.assertEqual((status, said), (0, ""))
             self.assertIn("./ask search POLYNOMIAL", shown)
+            self.assertIn("./ask circulant POLYNOMIAL", shown)
 
     def test_what_is_no_program(self):
         write(os.path.join(self.place, "text"), "no program")
@@ -397,6 +400,57 @@ class Ask(Place):
             self.assertEqual((asking.returncode, said), (128 + number, b"ask: interrupted\n"))
             self.assertTrue(has_ended(process))
             os.remove(sleeper)
+
+
+class Circulant(Place):
+    """./ask circulant, by the second program, whose rows are those of ./rowfind, as second/compare shows."""
+
+    BRIEF = "283 4 1 2 3".split()
+
+    def asked(self, words, rowfind=rowtext.SECOND):
+        return run([os.path.join(ROOT, "ask"), "circulant", *words], env=dict(os.environ, ROWFIND=rowfind))
+
+    def test_a_row_in_words(self):
+        status, shown, said = self.asked(self.BRIEF)
+        self.assertEqual((status, said), (0, ""))
+        asked, answer = shown.split("answer\n")
+        self.assertEqual(asked, "request\n" + reference.CIRCULANT_REQUEST.decode())
+        lines = [line.split("  | ") for line in answer.splitlines()]
+        self.assertEqual([raw for raw, _ in lines[:2]], reference.CIRCULANT_ANSWER.decode().splitlines())
+        words = [word for _, word in lines]
+        self.assertEqual(words[:2], ["the lightest row: 1 1 2 3", "in hexadecimal: 0x1 0x1 0x2 0x3"])
+        self.assertEqual(words[-1], "at line i, column j of the matrix stands the row's element at (j - i) modulo 4")
+        self.assertIn("XOR count of the whole matrix: 152", words)
+
+    def test_every_order(self):
+        for n in range(2, 8):
+            row = self.asked(["283", str(n), "1", "0x2", "3", "4", "6"])[1].split("the lightest row: ")[1].split("\n")[0].split()
+            self.assertEqual(len(row), n)
+
+    def test_a_refusal(self):
+        briefs = ("3 2 1", "21 2 1", "19 1 1", "19 9 1", "19 2", "19 8 1 2 3 4 5 6 7 8 9", "19 2 16", "19 2 1 0", "19 2 1 1", "19 2 1")
+        for words, number in zip(briefs, (3, 4, 5, 5, 6, 6, 7, 8, 8, 9)):
+            status, shown, said = self.asked(words.split())
+            self.assertEqual((status, said), (1, ""))
+            self.assertIn(f"refused with {number}: {rowtext.MEANINGS[number]}", shown)
+
+    def test_what_is_no_answer_text(self):
+        program, answer = os.path.join(self.place, "program"), reference.CIRCULANT_ANSWER.decode()
+        texts = [answer[:25], answer[25:], answer[:-7] + "\n", answer[:-1] + "     4\n", answer + answer[25:], "     0\n", "    10\n"]
+        for text in texts:
+            write(program, f"#!/usr/bin/env bash\ncat >/dev/null\nprintf '{text}'\n")
+            status, _, said = self.asked(self.BRIEF, program)
+            self.assertEqual((status, said.count("\n")), (3, 1), text)
+            self.assertIn("something else than an answer text", said)
+
+    def test_the_example(self):
+        example = read(os.path.join(ROOT, "examples", "circulant.txt"))
+        self.assertEqual(example, reference.CIRCULANT_REQUEST.decode())
+        self.assertTrue("./ask circulant " + " ".join(self.BRIEF) + "\n" in read(os.path.join(ROOT, "README.md")))
+
+    def test_the_proved_program_gives_the_same_row(self):
+        for words in (self.BRIEF, "7 2 3 2".split(), "19 4 1".split(), "283 8 1 2 3 4 5 6 7 8".split()):
+            self.assertEqual(run([os.path.join(ROOT, "ask"), "circulant", *words], timeout=600), self.asked(words))
 
 
 class Verilog:
@@ -694,9 +748,9 @@ class Comparison(Place):
         self.assertEqual([compare.is_decided(text) for text in texts], [False, True])
         parts, expected = ["ties_of_order_four", "ties_of_order_four", "sizes"], [rowtext.line([0])] * 3
         decided = compare.decided_by_depth(parts, [*texts, texts[1]], expected)
-        self.assertEqual(decided, {"ties_of_order_four": 1, "ties_of_order_eight": 0})
-        self.assertEqual(len(list(compare.too_few(decided))), 2)
-        self.assertEqual(len(list(compare.too_few(dict(decided, ties_of_order_four=1000)))), 1)
+        self.assertEqual(decided, {"ties_of_order_four": 1, "ties_of_order_eight": 0, "ties_of_circulants": 0})
+        self.assertEqual(len(list(compare.too_few(decided))), 3)
+        self.assertEqual(len(list(compare.too_few(dict(decided, ties_of_order_four=1000)))), 2)
         self.assertEqual(list(compare.too_few(compare.LEAST_DECIDED)), [])
 
     def test_sets_with_ties_have_them(self):
@@ -705,6 +759,30 @@ class Comparison(Place):
             drawn = [samples.tied(dice, m, n) for _ in range(8)]
             decided = [compare.is_decided(rowtext.request(rowtext.SEARCH, p, n, candidates)) for p, candidates in drawn]
             self.assertGreater(sum(decided), 2, (m, n))
+
+    def test_circulant_sets_with_ties_have_them(self):
+        compare, dice = load("second/compare"), random.Random(5)
+        texts = [rowtext.request(rowtext.CIRCULANT, 19, 2, candidates) for candidates in ([2, 3], [2, 3, 6])]
+        self.assertEqual([compare.is_decided(text) for text in texts], [False, True])
+        for m, n in ((4, 3), (6, 2), (7, 3), (8, 4)):
+            drawn = [samples.tied_circulant(dice, m, n) for _ in range(8)]
+            texts = [rowtext.request(rowtext.CIRCULANT, p, n, candidates) for p, candidates in drawn]
+            accepted = [text for text in texts if rowtext.run(rowtext.SECOND, text).startswith(compare.ACCEPTED)]
+            self.assertGreater(sum(map(compare.is_decided, accepted)), 2, (m, n))
+
+    def test_a_wrong_circulant_row_is_seen(self):
+        compare, server, right = load("second/compare"), rowtext.Server(), reference.CIRCULANT_ANSWER
+        self.addCleanup(server.close)
+        self.assertEqual(compare.circulant_fault(server, 283, 4, right), "")
+        # An involution of order 2 is none of the faults.
+        self.assertEqual(compare.circulant_fault(server, 7, 2, rowtext.line([0, 2, 4, 8]) + rowtext.line([2, 3])), "")
+        changes = (
+            (b"   152", b"   153"), (b"     2     3", b"     2     2"), (b"     3\n", b"\n"), (b"     3\n", b"     3     1\n"),
+            (b"\n     1", b"     1"), (b"     3\n", b"   256\n"), (right, right + right), (right, b"ended by signal 9"), (right, b"     0\n"),
+        )
+        for old, new in changes:
+            self.assertIn(old, right)
+            self.assertTrue(compare.circulant_fault(server, 283, 4, right.replace(old, new, 1)), (old, new))
 
     def test_the_depth_of_a_printed_row(self):
         sources = load("second/sources")

@@ -1,7 +1,7 @@
 """The reference lines of document 01, with the counts of request One, the gates of request Two, the order of request Three, the
-rows of request Four and the worked example of request Five, as whole request and answer texts, its products also as numbers; a text for
-each refusal."""
-from rowtext import ALWAYS_ZERO, CHECK, GATES, SEARCH, SURVEY, circulant, hadamard, line, request
+rows of request Four, the worked example of request Five and the circulant rows of request Six, as whole request and answer texts, the
+products also as numbers; a text for each refusal."""
+from rowtext import ALWAYS_ZERO, CHECK, CIRCULANT, GATES, SEARCH, SURVEY, circulant, hadamard, line, request
 
 WORKED_REQUEST = b"     1    19     4     4\n     1     4     9    13\n"
 WORKED_ANSWER = b"     0     6    18    72\n     1     4     9    13\n"
@@ -171,6 +171,38 @@ def product_lines():
         yield f"{{57}} × {{{b:x}}} over 283", request(CHECK, 283, 2, matrix), answer
 
 
+CIRCULANT_REQUEST = b"     5   283     4     3\n     1     2     3\n"
+CIRCULANT_ANSWER = b"     0    14    38   152\n     1     1     2     3\n"
+
+
+def circulant_lines():
+    """The lightest MDS circulant matrix; an element may stand in the row several times."""
+    def found(p, n, candidates, counts, row):
+        return f"circulant of order {n} over {p}: {row}", request(CIRCULANT, p, n, candidates), line([0, *counts]) + line(row)
+
+    yield "circulant over 1 2 3", CIRCULANT_REQUEST, CIRCULANT_ANSWER
+    yield found(283, 4, [3, 1, 2], [14, 38, 152], [1, 1, 2, 3])
+    yield found(7, 2, [3, 2], [2, 4, 8], [2, 3])
+    yield found(19, 3, [1, 2, 3, 4], [1, 9, 27], [1, 1, 2])
+    yield found(283, 8, list(range(1, 9)), [53, 109, 872], [1, 1, 3, 1, 8, 4, 5, 6])
+    yield "no circulant of order 8 over 19", request(CIRCULANT, 19, 8, [1, 2, 4, 8, 3, 6, 12, 11]), line([9])
+    # Fewer candidates than the order. A single one gives lines that are all alike.
+    yield found(19, 3, [2, 1], [1, 9, 27], [1, 1, 2])
+    yield found(67, 5, [1, 2, 3], [9, 33, 165], [1, 1, 2, 3, 2])
+    for n in range(2, 9):
+        yield f"one candidate at order {n}", request(CIRCULANT, 283, n, [2]), line([9])
+
+
+def circulant_depth_lines():
+    """Of equal counts the least depth. Over 19 the elements 3 and 6 count 5; bit 1 of 2 3 joins 5 input bits, a bit of 2 6 at most 4."""
+    yield "circulant 2 3", request(CIRCULANT, 19, 2, [3, 2]), line([0, 6, 10, 20]) + line([2, 3])
+    yield "circulant 2 6, which is shallower", request(CIRCULANT, 19, 2, [6, 3, 2]), line([0, 6, 10, 20]) + line([2, 6])
+    # 1 2 2 8 is as light and earlier, and deeper.
+    yield "circulant 1 8 12 12", request(CIRCULANT, 25, 4, [1, 2, 8, 12]), line([0, 8, 20, 80]) + line([1, 8, 12, 12])
+    # 3 9 is shallower and earlier, and counts 10.
+    yield "circulant 9 13, which is deeper", request(CIRCULANT, 19, 2, [3, 9, 13]), line([0, 4, 8, 16]) + line([9, 13])
+
+
 def limit_lines():
     """Limits of polynomial, order and count."""
     for polynomial, number in [(3, 3), (7, 9), (21, 4), (511, 4), (512, 3)]:
@@ -181,12 +213,19 @@ def limit_lines():
     yield "order 8, 17 candidates", request(SEARCH, 283, 8, values[:17]), line([6])
     yield "order 4, 255 candidates", request(SEARCH, 283, 4, values[:255]), line([0, 20, 44, 176]) + line(four)
     yield "order 4, 256 values", request(SEARCH, 283, 4, values), line([6])
+    for polynomial, number in [(3, 3), (7, 9), (21, 4), (511, 4), (512, 3)]:
+        yield f"circulant, polynomial {polynomial}", request(CIRCULANT, polynomial, 4, [1]), line([number])
+    for order in (0, 1, 9, 999999):
+        yield f"circulant, order {order}", request(CIRCULANT, 283, order, values[:8]), line([5])
+    for order in range(2, 9):
+        yield f"circulant, order {order}, no candidate", request(CIRCULANT, 283, order, []), line([6])
+        yield f"circulant, order {order}, 9 candidates", request(CIRCULANT, 283, order, values[:9]), line([6])
 
 
 def reference_lines():
     """(name, request text, answer text)"""
     parts = (search_lines, depth_lines, check_lines, zero_lines, survey_lines, field_lines, gate_lines, product_lines, limit_lines)
-    for part in parts:
+    for part in (*parts, circulant_lines, circulant_depth_lines):
         yield from part()
 
 
@@ -231,6 +270,7 @@ def refusal_lines():
     yield "no row at order 4", r(SEARCH, 19, 4, [1, 2, 4, 8]), 9
     yield "no row at order 8", r(SEARCH, 19, 8, [1, 2, 3, 4, 5, 6, 7]), 9
     yield from gate_refusals()
+    yield from circulant_refusals()
 
 
 def gate_refusals():
@@ -255,3 +295,32 @@ def gate_refusals():
     yield "6 before 7 in gates", r(GATES, 19, 2, [16] * 3), 6
     yield "entry 16 over 19 in gates", r(GATES, 19, 1, [16]), 7
     yield "the last entry 256 over 283 in gates", r(GATES, 283, 8, [0] * 63 + [256]), 7
+
+
+def circulant_refusals():
+    """Kind 5: each number alone, the first fault of several, and where a number begins and ends."""
+    r = request
+    yield "circulant without a line end", CIRCULANT_REQUEST[:-1], 1
+    yield "circulant with a candidate missing", r(CIRCULANT, 283, 4, [1, 2], count=3), 1
+    yield "1 before 3 to 8 in circulant", r(CIRCULANT, 3, 9, [0, 0, 999999], count=2), 1
+    yield "kind 6", r(6, 283, 4, [1, 2, 3]), 2
+    yield "circulant over 3", r(CIRCULANT, 3, 2, [1]), 3
+    yield "circulant over 512", r(CIRCULANT, 512, 2, [1]), 3
+    yield "3 before 5 to 8 in circulant", r(CIRCULANT, 3, 9, [0, 0, 999999]), 3
+    yield "circulant over 4", r(CIRCULANT, 4, 2, [1]), 4
+    yield "circulant over 21", r(CIRCULANT, 21, 2, [1]), 4
+    yield "circulant over 511", r(CIRCULANT, 511, 2, [1]), 4
+    yield "4 before 5 to 8 in circulant", r(CIRCULANT, 21, 9, [0, 0, 999999]), 4
+    yield "order 1 in circulant", r(CIRCULANT, 19, 1, [1]), 5
+    yield "order 9 in circulant", r(CIRCULANT, 19, 9, [1]), 5
+    yield "5 before 6 to 8 in circulant", r(CIRCULANT, 19, 1, [0, 0] + [16] * 300), 5
+    yield "no candidate in circulant", r(CIRCULANT, 19, 2, []), 6
+    yield "9 candidates in circulant", r(CIRCULANT, 19, 8, list(range(1, 10))), 6
+    yield "6 before 7 and 8 in circulant", r(CIRCULANT, 19, 8, [16, 0, 0] * 3), 6
+    yield "candidate 16 over 19 in circulant", r(CIRCULANT, 19, 4, [1, 16]), 7
+    yield "the last candidate 256 over 283 in circulant", r(CIRCULANT, 283, 8, [1, 2, 3, 4, 5, 6, 7, 256]), 7
+    yield "7 before 8 in circulant", r(CIRCULANT, 19, 4, [0, 0, 16]), 7
+    yield "candidate 0 in circulant", r(CIRCULANT, 19, 4, [1, 0]), 8
+    yield "a candidate repeated in circulant", r(CIRCULANT, 19, 4, [1, 2, 3, 4, 5, 6, 7, 1]), 8
+    yield "8 before 9 in circulant", r(CIRCULANT, 19, 8, [1, 1]), 8
+    yield "no circulant row", r(CIRCULANT, 19, 4, [1]), 9

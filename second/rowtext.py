@@ -15,7 +15,7 @@ SECOND = os.path.join(ROOT, "target", "second", "release", "second")
 sys.path.insert(0, os.path.join(ROOT, "bindings", "python"))
 sys.dont_write_bytecode = True
 
-from rowfind import ALWAYS_ZERO, CHECK, GATES, MEANINGS, MOST_VALUES, SEARCH, SURVEY, line, numbers, request
+from rowfind import ALWAYS_ZERO, CHECK, CIRCULANT, GATES, MEANINGS, MOST_VALUES, SEARCH, SURVEY, line, numbers, request
 
 
 def give_up(words):
@@ -145,6 +145,7 @@ class Server:
     def close(self):
         self.process.stdin.close()
         self.process.wait()
+        self.process.stdout.close()
 
 
 def printed_matrices():

@@ -1,5 +1,6 @@
 """Polynomials, elements and matrices for the comparisons: all good, in several styles, drawn with given dice."""
 import functools
+import itertools
 import operator
 
 import rowtext
@@ -61,6 +62,28 @@ def tied(dice, m, n):
             other = sorted({*row, c, d} - {a, b})
             if depth(p, other) < depth(p, row) and sorted(row) < other:
                 return p, dice.sample([*row, c, d], n + 2)
+
+
+@functools.cache
+def of_one_count(p):
+    """The nonzero elements of a field, in groups of equal counts, those of two and more."""
+    groups = {}
+    for a in range(1, 1 << degree(p)):
+        groups.setdefault(ones(p, [a]), []).append(a)
+    return [group for group in groups.values() if len(group) > 1]
+
+
+def tied_circulant(dice, m, n):
+    """A polynomial of degree m and candidates of one count, so that all rows of order n are as light; of these, taken with their entries
+    in ascending order, none of the first third in the dictionary has the least depth. Where early and shallow ones are MDS, depth
+    decides a circulant search. There is no such set over degrees 2 and 3, and none for some orders over degree 4."""
+    while True:
+        p = dice.choice(OF_DEGREE[m])
+        group = dice.choice(of_one_count(p))
+        candidates = dice.sample(group, min(len(group), dice.randint(3, 8 if n < 6 else 6)))
+        depths = [depth(p, row) for row in itertools.combinations_with_replacement(sorted(candidates), n)]
+        if min(depths) < min(depths[: len(depths) // 3 + 1]):
+            return p, candidates
 
 
 def low_rank(dice, p, n):

@@ -35,6 +35,11 @@ static const request_t REQUESTS[] = {
     {"the slowest search",
      {1, 415, 8, 16, 22, 23, 52, 53, 74, 75, 104, 105, 146, 147, 176, 177, 206, 207, 236, 237},
      "     0   176   232  1856\n    52    53    75   177   105   207   206   146\n", 0, 0},
+    {"a circulant row", {5, 7, 2, 2, 3, 2}, "     0     2     4     8\n     2     3\n", 0, 0},
+    {"no circulant row", {5, 283, 4, 2, 1, 2}, "     9\n", 9, 0},
+    {"a circulant row of order 8",
+     {5, 283, 8, 8, 1, 2, 3, 4, 5, 6, 7, 8},
+     "     0    53   109   872\n     1     1     3     1     8     4     5     6\n", 0, 0},
     {"no kind", {9, 19, 4, 0}, "     2\n", 2, 0},
 };
 enum { MANY = sizeof REQUESTS / sizeof *REQUESTS };
@@ -79,11 +84,16 @@ static int answered(const request_t *r) {
     return c.good;
 }
 
+/* Searches of order 8, of either shape, take too long to be asked again and again. */
+static int is_long(const request_t *r) {
+    return (r->numbers[0] == 1 || r->numbers[0] == 5) && r->numbers[2] == 8;
+}
+
 static void *answered_again_and_again(void *unused) {
     int good = 1;
     (void)unused;
     for (int k = 0; k < ROUNDS * MANY; k++) {
-        good &= strcmp(REQUESTS[k % MANY].name, "the slowest search") == 0 || answered(&REQUESTS[k % MANY]);
+        good &= is_long(&REQUESTS[k % MANY]) || answered(&REQUESTS[k % MANY]);
     }
     return good ? &failed : NULL;
 }

@@ -1,4 +1,4 @@
-"""The proved row finder for Python: searches, checks, surveys and gate lists, in Python numbers.
+"""The proved row finder for Python: searches of Hadamard and of circulant rows, checks, surveys and gate lists, in Python numbers.
 
     >>> import rowfind
     >>> rowfind.search(19, 4, [1, 4, 9, 13])
@@ -9,6 +9,8 @@
     [Polynomial(polynomial=7, count_sum=2, square_sum=2)]
     >>> rowfind.gates(7, [[2, 3], [0, 1]])
     Netlist(gates=[(1, 2), (4, 3), (0, 1), (6, 2)], carriers=[5, 7, 2, 3])
+    >>> rowfind.circulant(283, 4, [1, 2, 3])
+    Row(row=[1, 1, 2, 3], element_sum=14, row_count=38, matrix_count=152)
 
 A polynomial or an element is a number whose bit i is the coefficient of x^i; anything that Python takes for an index is a
 number, Sage's integers too. A request that is refused raises Refused, with the number and its meaning.
@@ -23,7 +25,7 @@ import operator
 import os
 from typing import NamedTuple
 
-SEARCH, CHECK, SURVEY, GATES = 1, 2, 3, 4
+SEARCH, CHECK, SURVEY, GATES, CIRCULANT = 1, 2, 3, 4, 5
 
 LARGEST = 999999  # number of six columns
 ALWAYS_ZERO = 999999  # in a gate list, for the carrier of an output bit that is always 0
@@ -32,14 +34,14 @@ LONGEST_ANSWER = 52877  # bytes: ROWFIND_LONGEST_ANSWER of include/rowfind.h
 
 MEANINGS = {
     1: "the text is not in form, is too long, or has not as many values as its count says",
-    2: "the kind is not 1, 2, 3 or 4",
+    2: "the kind is not 1, 2, 3, 4 or 5",
     3: "the polynomial is not from 4 to 511 (for a survey: the degree is not from 2 to 8)",
     4: "the polynomial is reducible",
     5: "the order is not allowed for the kind",
     6: "the count is not allowed for the kind and order",
     7: "a value is outside the field (2 to the degree, or more)",
     8: "a candidate is 0 or repeated",
-    9: "none: no row over the candidates is both an involution and MDS",
+    9: "none: no row over the candidates is both an involution and MDS (for a circulant search: none is MDS)",
     10: "the lent space is shorter than the answer due",
 }
 
@@ -56,7 +58,8 @@ class Refused(Exception):
 
 
 class Row(NamedTuple):
-    """The lightest row: entry h at (i xor j) of the row stands at line i, column j of its matrix."""
+    """The lightest row. At line i, column j of its matrix stands the row's entry at (i xor j); if it is circulant, that at (j - i)
+    modulo the order."""
 
     row: list
     element_sum: int  # of the XOR counts of the row's elements
@@ -93,6 +96,13 @@ def search(polynomial, order, candidates):
     """The lightest row of order 4 or 8 over the candidates that is an MDS involution: of equal counts the one of least depth, of
     these the first in dictionary order. Where there is none, Refused with number 9."""
     (_, *counts), row = numbers(answer(request(SEARCH, polynomial, order, candidates)))
+    return Row(row, *counts)
+
+
+def circulant(polynomial, order, candidates):
+    """The lightest row of order 2 to 8 over 1 to 8 candidates whose circulant matrix is MDS, by the same rules; a candidate may stand
+    in it several times. Where there is none, Refused with number 9."""
+    (_, *counts), row = numbers(answer(request(CIRCULANT, polynomial, order, candidates)))
     return Row(row, *counts)
 
 

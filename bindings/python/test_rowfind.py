@@ -73,6 +73,22 @@ class Functions(unittest.TestCase):
         # 1 2 4 6 is as light and earlier, and deeper.
         self.assertEqual(rowfind.search(31, 4, range(1, 16)), rowfind.Row([1, 2, 13, 15], 12, 24, 96))
 
+    def test_circulant(self):
+        found = rowfind.circulant(283, 4, iter([3, 1, 2]))
+        self.assertEqual(found, rowfind.Row([1, 1, 2, 3], 14, 38, 152))
+        self.assertEqual(rowfind.circulant(Index(283), Index(4), map(Index, [1, 2, 3])), found)
+        self.assertEqual(rowfind.circulant(7, 2, [3, 2]), rowfind.Row([2, 3], 2, 4, 8))
+        # 2 3 is as light and earlier, and deeper.
+        self.assertEqual(rowfind.circulant(19, 2, [2, 3, 6]), rowfind.Row([2, 6], 6, 10, 20))
+
+    def test_circulant_rows_are_mds(self):
+        for n in range(2, 8):
+            found = rowfind.circulant(283, n, [1, 2, 3, 4, 6])
+            entries = rowtext.circulant(found.row)
+            check = rowfind.check(283, [entries[k : k + n] for k in range(0, n * n, n)])
+            self.assertEqual((check.mds, check.branch_number, check.matrix_count), (True, n + 1, found.matrix_count))
+            self.assertFalse(check.involution and n > 2)
+
     def test_check(self):
         fips = [[2, 3, 1, 1], [1, 2, 3, 1], [1, 1, 2, 3], [3, 1, 1, 2]]
         self.assertEqual(rowfind.check(283, fips), rowfind.Check(5, True, False, 152))
@@ -137,7 +153,16 @@ class Refusals(unittest.TestCase):
             5: lambda: rowfind.gates(19, []),
             7: lambda: rowfind.gates(19, [[16]]),
         }
-        for number, call in (*refused.items(), *of_gates.items()):
+        of_circulant = {
+            3: lambda: rowfind.circulant(3, 2, [1]),
+            4: lambda: rowfind.circulant(21, 2, [1]),
+            5: lambda: rowfind.circulant(19, 9, [1]),
+            6: lambda: rowfind.circulant(19, 8, range(1, 10)),
+            7: lambda: rowfind.circulant(19, 2, [16]),
+            8: lambda: rowfind.circulant(19, 2, [1, 1]),
+            9: lambda: rowfind.circulant(19, 2, [1]),
+        }
+        for number, call in (*refused.items(), *of_gates.items(), *of_circulant.items()):
             with self.assertRaises(rowfind.Refused) as caught:
                 call()
             self.assertEqual(caught.exception.number, number)

@@ -1,10 +1,11 @@
 //! From a request text to its answer text, and the refusals in their order.
 
+use crate::circulant;
 use crate::distance::{branch_number, lightest_word, Word};
 use crate::field::{degree, irreducible, Field, Fields};
 use crate::gates::Netlist;
 use crate::matrix::{line_count, line_depth, Matrix};
-use crate::search::{lightest_row, lightest_row_of_any_depth};
+use crate::search::{self, Found};
 use crate::text::{line_of, read_request, Request};
 
 /// A refusal's number, 1 to 9.
@@ -31,17 +32,17 @@ impl Answerer {
         Ok(lightest_word(self.fields.of(request.polynomial), &matrix_of(&request)))
     }
 
-    /// Rows and their depths. For a check: its first line. For a search: the row that is found, and the one that would be
-    /// if depth did not count.
+    /// Rows and their depths. For a check: its first line. For a search of either shape: the row that is found, and the one
+    /// that would be if depth did not count.
     pub fn depths(&mut self, text: &[u8]) -> Result<Vec<(u32, Vec<u8>)>, Refusal> {
         let request = judged(text)?;
-        if request.kind != 1 && request.kind != 2 {
+        if ![1, 2, 5].contains(&request.kind) {
             return Err(2);
         }
         let field = self.fields.of(request.polynomial);
         let rows = match request.kind {
-            1 => both_rows(field, &request)?,
-            _ => vec![elements(&request)[..request.order as usize].to_vec()],
+            2 => vec![elements(&request)[..request.order as usize].to_vec()],
+            _ => vec![lightest(field, &request)?.row, lightest_of_any_depth(field, &request)?.row],
         };
         Ok(rows.into_iter().map(|row| (line_depth(field, &row), row)).collect())
     }
@@ -49,7 +50,7 @@ impl Answerer {
     fn accepted(&mut self, text: &[u8]) -> Result<String, Refusal> {
         let request = judged(text)?;
         match request.kind {
-            1 => search_answer(self.fields.of(request.polynomial), &request),
+            1 | 5 => search_answer(self.fields.of(request.polynomial), &request),
             2 => Ok(check_answer(self.fields.of(request.polynomial), &request)),
             3 => Ok(survey_answer(request.polynomial)),
             _ => Ok(Netlist::of(self.fields.of(request.polynomial), &matrix_of(&request)).text()),
@@ -64,6 +65,7 @@ fn judged(text: &[u8]) -> Result<Request, Refusal> {
         1 => search_refusal(&request),
         2 | 4 => check_refusal(&request),
         3 => survey_refusal(&request),
+        5 => circulant_refusal(&request),
         _ => Some(2),
     };
     refused.map_or(Ok(request), Err)
@@ -76,10 +78,19 @@ pub fn first_fault(faults: &[(Refusal, &dyn Fn() -> bool)]) -> Option<Refusal> {
 
 fn search_refusal(request: &Request) -> Option<Refusal> {
     let most = if request.order == 4 { 255 } else { 16 };
+    candidates_refusal(request, &[4, 8], most)
+}
+
+fn circulant_refusal(request: &Request) -> Option<Refusal> {
+    candidates_refusal(request, &[2, 3, 4, 5, 6, 7, 8], 8)
+}
+
+/// Of a request with 1 to `most` candidates, of one of these orders.
+fn candidates_refusal(request: &Request, orders: &[u32], most: u32) -> Option<Refusal> {
     first_fault(&[
         (3, &|| !polynomial_in_range(request)),
         (4, &|| !irreducible(request.polynomial)),
-        (5, &|| request.order != 4 && request.order != 8),
+        (5, &|| !orders.contains(&request.order)),
         (6, &|| request.count < 1 || request.count > most),
         (7, &|| value_outside_field(request)),
         (8, &|| zero_or_repeated(&request.values)),
@@ -122,14 +133,22 @@ fn elements(request: &Request) -> Vec<u8> {
     request.values.iter().map(|&v| v as u8).collect()
 }
 
-fn both_rows(field: &Field, request: &Request) -> Result<Vec<Vec<u8>>, Refusal> {
-    let searches = [lightest_row, lightest_row_of_any_depth];
-    let found = searches.map(|search| search(field, request.order as usize, &elements(request)));
-    found.into_iter().map(|found| Ok(found.ok_or(9u32)?.row)).collect()
+/// The row of the kind's shape.
+fn lightest(field: &Field, request: &Request) -> Result<Found, Refusal> {
+    let find = if request.kind == 1 { search::lightest_row } else { circulant::lightest_row };
+    find(field, request.order as usize, &elements(request)).ok_or(9)
+}
+
+fn lightest_of_any_depth(field: &Field, request: &Request) -> Result<Found, Refusal> {
+    let find = match request.kind {
+        1 => search::lightest_row_of_any_depth,
+        _ => circulant::lightest_row_of_any_depth,
+    };
+    find(field, request.order as usize, &elements(request)).ok_or(9)
 }
 
 fn search_answer(field: &Field, request: &Request) -> Result<String, Refusal> {
-    let found = lightest_row(field, request.order as usize, &elements(request)).ok_or(9u32)?;
+    let found = lightest(field, request)?;
     let row_count = line_count(field, &found.row);
     let row: Vec<u32> = found.row.iter().map(|&h| h as u32).collect();
     Ok(line_of(&[0, found.sum, row_count, request.order * row_count]) + &line_of(&row))
@@ -210,6 +229,28 @@ mod tests {
     }
 
     #[test]
+    fn reference_circulants() {
+        assert_eq!(ask(5, 283, 4, &[1, 2, 3]), [0, 14, 38, 152, 1, 1, 2, 3]);
+        assert_eq!(ask(5, 7, 2, &[3, 2]), [0, 2, 4, 8, 2, 3]);
+        assert_eq!(ask(5, 19, 3, &[1, 2, 3, 4]), [0, 1, 9, 27, 1, 1, 2]);
+        let eight: Vec<u32> = (1..9).collect();
+        assert_eq!(ask(5, 283, 8, &eight), [0, 53, 109, 872, 1, 1, 3, 1, 8, 4, 5, 6]);
+        assert_eq!(ask(5, 19, 8, &[1, 2, 4, 8, 3, 6, 12, 11]), [9]);
+        // Fewer candidates than the order may do; one never does.
+        assert_eq!(ask(5, 19, 3, &[2, 1]), [0, 1, 9, 27, 1, 1, 2]);
+        assert!((2..9).all(|n| ask(5, 283, n, &[1]) == [9]));
+    }
+
+    #[test]
+    fn reference_circulants_by_depth() {
+        assert_eq!(ask(5, 19, 2, &[3, 2]), [0, 6, 10, 20, 2, 3]);
+        assert_eq!(ask(5, 19, 2, &[6, 3, 2]), [0, 6, 10, 20, 2, 6]);
+        assert_eq!(ask(5, 25, 4, &[1, 2, 8, 12]), [0, 8, 20, 80, 1, 8, 12, 12]);
+        // 3 9 is shallower and earlier, and heavier.
+        assert_eq!(ask(5, 19, 2, &[3, 9, 13]), [0, 4, 8, 16, 9, 13]);
+    }
+
+    #[test]
     fn depths_of_a_check_and_of_a_search() {
         let depths = |kind, polynomial, order, values: &[u32]| {
             let text = text_of([kind, polynomial, order, values.len() as u32], values);
@@ -221,6 +262,8 @@ mod tests {
         assert_eq!(depths(1, 31, 4, &fifteen), Ok(vec![(3, vec![1, 2, 13, 15]), (4, vec![1, 2, 4, 6])]));
         assert_eq!(depths(1, 19, 4, &fifteen), Ok(vec![(3, vec![1, 4, 9, 13]); 2]));
         assert_eq!(depths(1, 19, 4, &[1, 2, 4, 8]), Err(9));
+        assert_eq!(depths(5, 19, 2, &[2, 3, 6]), Ok(vec![(2, vec![2, 6]), (3, vec![2, 3])]));
+        assert_eq!(depths(5, 19, 2, &[2]), Err(9));
         assert_eq!(
             [depths(3, 4, 0, &[]), depths(4, 7, 1, &[3]), depths(2, 21, 1, &[1])],
             [Err(2), Err(2), Err(4)]
@@ -292,6 +335,7 @@ mod tests {
         assert_eq!(answer(""), "     1\n");
         assert_eq!(answer("     9     3     9     1\n"), "     1\n");
         assert_eq!(ask(9, 3, 9, &[0, 0]), [2]);
+        assert_eq!(ask(6, 19, 4, &[1]), [2]);
         assert_eq!(ask(0, 21, 9, &[300]), [2]);
         assert_eq!(ask(1, 512, 5, &[]), [3]);
         assert_eq!(ask(1, 21, 5, &[]), [4]);
@@ -309,6 +353,14 @@ mod tests {
             assert_eq!(ask(kind, 19, 2, &[16; 3]), [6]);
             assert_eq!(ask(kind, 19, 2, &[0, 0, 0, 16]), [7]);
         }
+        assert_eq!(ask(5, 512, 9, &[]), [3]);
+        assert_eq!(ask(5, 21, 9, &[]), [4]);
+        assert_eq!([0, 1, 9].map(|n| ask(5, 19, n, &[16; 9])), [[5], [5], [5]]);
+        assert_eq!(ask(5, 19, 2, &[16; 9]), [6]);
+        assert_eq!(ask(5, 19, 8, &[]), [6]);
+        assert_eq!(ask(5, 19, 4, &[0, 0, 16]), [7]);
+        assert_eq!(ask(5, 19, 4, &[2, 4, 2]), [8]);
+        assert_eq!(ask(5, 19, 4, &[2, 0]), [8]);
         assert_eq!(ask(3, 9, 1, &[1]), [3]);
         assert_eq!(ask(3, 1, 0, &[]), [3]);
         assert_eq!(ask(3, 4, 1, &[1]), [5]);

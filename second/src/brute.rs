@@ -42,11 +42,33 @@ pub fn is_involution(field: &Field, matrix: &Matrix) -> bool {
     inputs(field, matrix.order).all(|x| matrix.apply(field, &matrix.apply(field, &x)) == x)
 }
 
+/// Every nonzero input and its output have more nonzero words than the order.
+pub fn is_mds(field: &Field, matrix: &Matrix) -> bool {
+    let light = |x: [u8; MOST]| weight(&x) + weight(&matrix.apply(field, &x)) <= matrix.order;
+    !inputs(field, matrix.order).skip(1).any(light)
+}
+
 /// Both properties of a row, by their definitions.
 pub fn is_good(field: &Field, row: &[u8]) -> bool {
     let matrix = Matrix::hadamard(row);
-    let light = |x: [u8; MOST]| weight(&x) + weight(&matrix.apply(field, &x)) <= matrix.order;
-    !inputs(field, matrix.order).skip(1).any(light) && is_involution(field, &matrix)
+    is_mds(field, &matrix) && is_involution(field, &matrix)
+}
+
+/// The square blocks of a size: so many lines and columns of a matrix.
+pub fn blocks(matrix: &Matrix, size: usize) -> impl Iterator<Item = Matrix> + '_ {
+    let of_size = move |set: &usize| set.count_ones() as usize == size;
+    let places =
+        move |set: usize| (0..matrix.order).filter(move |k| set >> k & 1 == 1).collect::<Vec<usize>>();
+    let choices: Vec<Vec<usize>> = (0..1 << matrix.order).filter(of_size).map(places).collect();
+    (0..choices.len() * choices.len()).map(move |k| {
+        let (lines, columns) = (&choices[k / choices.len()], &choices[k % choices.len()]);
+        Matrix::from_entries(size, |i, j| matrix.entries[lines[i]][columns[j]])
+    })
+}
+
+/// Every square block has a determinant other than 0.
+pub fn all_blocks(field: &Field, matrix: &Matrix) -> bool {
+    (1..=matrix.order).all(|size| blocks(matrix, size).all(|block| block.determinant(field) != 0))
 }
 
 /// All rows over the candidates, repeats allowed, in dictionary order where the candidates ascend.

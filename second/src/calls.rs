@@ -11,10 +11,11 @@
 //! 0, and beside a refusal all is 0. Candidates beyond the 64 that a record holds are 0.
 
 use crate::answer::{first_fault, zero_or_repeated, Refusal};
+use crate::circulant;
 use crate::distance::branch_number;
 use crate::field::{degree, irreducible, Field, Fields};
 use crate::matrix::{line_count, Matrix, MOST};
-use crate::search::lightest_row;
+use crate::search::{self, Found};
 
 pub const RECORD: usize = 88;
 
@@ -33,6 +34,10 @@ pub const PLAIN: u32 = 11;
 pub const HALVED: u32 = 12;
 pub const CHECK: u32 = 13;
 pub const SEARCH: u32 = 14;
+pub const CIRCULANT: u32 = 15;
+
+/// A search: over a field, of an order, with candidates.
+type Finder = fn(&Field, usize, &[u8]) -> Option<Found>;
 
 /// A call and what it is given.
 #[derive(Clone, Copy)]
@@ -75,7 +80,7 @@ impl Call {
 
     /// The lowest number that applies, or what the call yields. An unknown call yields nothing.
     pub fn answer(&self, fields: &mut Fields) -> Result<Yield, Refusal> {
-        if !(DEGREE..=SEARCH).contains(&self.call) {
+        if !(DEGREE..=CIRCULANT).contains(&self.call) {
             return Ok(Yield::default());
         }
         match self.refusal() {
@@ -89,11 +94,11 @@ impl Call {
             (3, &|| self.polynomial < 4 || self.polynomial > 511),
             (4, &|| !irreducible(self.polynomial)),
             (5, &|| self.orders().is_some_and(|orders| !orders.contains(&self.first))),
-            (6, &|| self.call == SEARCH && !self.count_allowed()),
+            (6, &|| self.most_candidates().is_some_and(|most| self.second < 1 || self.second > most)),
             (7, &|| self.values().iter().any(|&v| v >= 1 << degree(self.polynomial))),
             (8, &|| match self.call {
                 INVERSE => self.first == 0,
-                SEARCH => zero_or_repeated(&self.values()),
+                SEARCH | CIRCULANT => zero_or_repeated(&self.values()),
                 _ => false,
             }),
         ])
@@ -105,15 +110,20 @@ impl Call {
             DETERMINANT => Some(&[0, 1, 2, 3, 4, 5, 6, 7, 8]),
             HALVED => Some(&[2, 4, 8]),
             SEARCH => Some(&[4, 8]),
+            CIRCULANT => Some(&[2, 3, 4, 5, 6, 7, 8]),
             BRANCH_NUMBER..=CHECK => Some(&[1, 2, 3, 4, 5, 6, 7, 8]),
             _ => None,
         }
     }
 
-    /// 1 to 255 candidates for order 4, 1 to 16 for order 8.
-    fn count_allowed(&self) -> bool {
-        let most = if self.first == 4 { 255 } else { 16 };
-        1 <= self.second && self.second <= most
+    /// How many candidates a call takes at most, if it takes some: 255 for order 4, 16 for order 8, 8 for a circulant matrix.
+    fn most_candidates(&self) -> Option<u32> {
+        match (self.call, self.first) {
+            (SEARCH, 4) => Some(255),
+            (SEARCH, _) => Some(16),
+            (CIRCULANT, _) => Some(8),
+            _ => None,
+        }
     }
 
     /// The order, or the count of the candidates, where it is allowed.
@@ -132,7 +142,7 @@ impl Call {
             ROW_COUNT => wide(&self.words[..self.n()]),
             PLAIN => block().chain(wide(&self.words[..self.n()])).collect(),
             HALVED => [wide(&self.entries[..self.n()]), wide(&self.words[..self.n()])].concat(),
-            SEARCH => (0..self.second as usize).map(|k| *self.entries.get(k).unwrap_or(&0) as u32).collect(),
+            SEARCH | CIRCULANT => (0..self.second as usize).map(|k| *self.entries.get(k).unwrap_or(&0) as u32).collect(),
             _ => Vec::new(),
         }
     }
@@ -162,7 +172,8 @@ impl Call {
             PLAIN => words(self.matrix().apply(field, &self.input())),
             HALVED => words(Matrix::hadamard(&self.entries[..self.n()]).apply(field, &self.input())),
             CHECK => self.check(field),
-            _ => self.search(field)?,
+            CIRCULANT => self.search(field, circulant::lightest_row)?,
+            _ => self.search(field, search::lightest_row)?,
         })
     }
 
@@ -175,7 +186,7 @@ impl Call {
     }
 
     /// The sum of the row's element counts, and the row.
-    fn search(&self, field: &Field) -> Result<Yield, Refusal> {
+    fn search(&self, field: &Field, lightest_row: Finder) -> Result<Yield, Refusal> {
         let candidates: Vec<u8> = self.values().iter().map(|&v| v as u8).collect();
         let found = lightest_row(field, self.n(), &candidates).ok_or(9u32)?;
         let words = std::array::from_fn(|j| *found.row.get(j).unwrap_or(&0));
@@ -302,6 +313,15 @@ mod tests {
         assert_eq!([refused(8, &[16; 17]), refused(8, &[16, 0, 0]), refused(4, &[4, 4])], [6, 7, 8]);
         // Candidates behind the 64 of a record are 0.
         assert_eq!([255, 256].map(|count| answer(call(SEARCH, 19, 4, count))), [Err(8), Err(6)]);
+    }
+
+    #[test]
+    fn circulant_searches() {
+        let found = Yield { values: [14, 0, 0, 0], words: [1, 1, 2, 3, 0, 0, 0, 0] };
+        assert_eq!(answer(on_row(CIRCULANT, 283, 4, &[1, 2, 3], &[])), Ok(found));
+        let refused = |n, row: &[u8]| answer(on_row(CIRCULANT, 7, n, row, &[])).unwrap_err();
+        assert_eq!([refused(2, &[1]), refused(1, &[1]), refused(9, &[1]), refused(2, &[])], [9, 5, 5, 6]);
+        assert_eq!([refused(2, &[4; 9]), refused(2, &[4]), refused(2, &[0]), refused(2, &[2, 2])], [6, 7, 8, 8]);
     }
 
     #[test]

@@ -39,6 +39,17 @@ pub fn may_be_mds(field: &Field, matrix: &Matrix) -> bool {
     walk.run().0 == matrix.order + 1
 }
 
+/// A quick look at a circulant matrix: false only where a light word was met. Words that begin at input 0 are enough, as
+/// turning the places of an input turns those of the output. Words with more than half of the inputs are not looked at.
+pub fn may_be_mds_circulant(field: &Field, matrix: &Matrix) -> bool {
+    let mut walk = Walk::with(field, matrix, matrix.order, Generator::by_inputs(matrix));
+    walk.firsts = 1;
+    (1..=matrix.order / 2).all(|w| {
+        walk.combine(0, w);
+        walk.best > matrix.order
+    })
+}
+
 /// A lightest word of a matrix that is not MDS.
 pub fn lightest_word(field: &Field, matrix: &Matrix) -> Option<Word> {
     Walk::new(field, matrix, 1).run().1
@@ -315,6 +326,22 @@ mod tests {
             {
                 let matrix = Matrix::hadamard(&row);
                 assert_eq!(may_be_mds(&field, &matrix), is_mds(&field, &matrix), "{row:?}");
+            }
+        }
+    }
+
+    /// The quick look at a circulant matrix meets every word that has at most half of its inputs other than 0.
+    #[test]
+    fn quick_look_at_circulants_meets_the_light_words_of_few_inputs() {
+        for (polynomial, order) in [(7, 2), (7, 3), (11, 3), (11, 4), (7, 5), (7, 6)] {
+            let field = Field::new(polynomial);
+            for row in brute::rows(&[0, 1, 2, 3], order) {
+                let matrix = Matrix::circulant(&row);
+                let light = brute::inputs(&field, order).skip(1).any(|input| {
+                    let few = brute::weight(&input) <= order / 2;
+                    few && brute::weight(&input) + brute::weight(&matrix.apply(&field, &input)) <= order
+                });
+                assert_eq!(may_be_mds_circulant(&field, &matrix), !light, "{row:?}");
             }
         }
     }

@@ -30,6 +30,12 @@ impl Matrix {
         Matrix::from_entries(row.len(), |i, j| row[i ^ j])
     }
 
+    /// The matrix whose entry at line i, column j is the row's at (j - i) modulo the order.
+    pub fn circulant(row: &[u8]) -> Matrix {
+        let n = row.len();
+        Matrix::from_entries(n, |i, j| row[(n + j - i) % n])
+    }
+
     /// The output for an input.
     pub fn apply(&self, field: &Field, input: &[u8; MOST]) -> [u8; MOST] {
         let mut output = [0; MOST];
@@ -181,6 +187,14 @@ mod tests {
                 assert_eq!(Matrix::from_entries(n, |_, _| 1).count(&field) as usize, n * (n - 1) * m);
             }
         }
+    }
+
+    #[test]
+    fn circulant_turns_its_row_from_line_to_line() {
+        let fips = [[2, 3, 1, 1], [1, 2, 3, 1], [1, 1, 2, 3], [3, 1, 1, 2]];
+        assert_eq!(Matrix::circulant(&[2, 3, 1, 1]), Matrix::from_entries(4, |i, j| fips[i][j]));
+        assert_eq!(Matrix::circulant(&[5]), Matrix::hadamard(&[5]));
+        assert_eq!(Matrix::circulant(&[5, 6]), Matrix::hadamard(&[5, 6]));
     }
 
     #[test]

@@ -148,13 +148,8 @@ impl<'a> Search<'a> {
         if !self.by_depth {
             return 0;
         }
-        let mut ones = [(self.order - filled) as u8; MOST];
-        for &k in &self.chosen[..filled] {
-            ones.iter_mut().zip(self.ones[k]).for_each(|(total, more)| *total += more);
-        }
-        // The bit matrix of an element has as many ones as its count, and one for each output bit.
-        let average = self.order as u32 + sum.div_ceil(self.field.degree as u32);
-        depth_of(ones.into_iter().map(u32::from).fold(average, u32::max))
+        let beginning = self.chosen[..filled].iter().map(|&k| &self.ones[k]);
+        least_depth(self.field.degree, self.order, beginning, sum)
     }
 
     fn is_good_four(&self, plane: &[usize; 4]) -> bool {
@@ -192,8 +187,25 @@ fn planes_ending(planes: &[[usize; 4]], index: usize) -> usize {
     planes.iter().take_while(|plane| plane[3] == index).count()
 }
 
+/// What the depth of a row of this order and this sum of counts is at least, by the ones of its beginning's entries; of a whole
+/// row its depth.
+pub fn least_depth<'a>(
+    degree: usize,
+    order: usize,
+    beginning: impl ExactSizeIterator<Item = &'a [u8; MOST]>,
+    sum: u32,
+) -> u32 {
+    let mut ones = [(order - beginning.len()) as u8; MOST];
+    for entry in beginning {
+        ones.iter_mut().zip(entry).for_each(|(total, more)| *total += more);
+    }
+    // The bit matrix of an element has as many ones as its count, and one for each output bit.
+    let average = order as u32 + sum.div_ceil(degree as u32);
+    depth_of(ones.into_iter().map(u32::from).fold(average, u32::max))
+}
+
 /// The ones of an element's output bits; 0 behind the last.
-fn ones_of(field: &Field, a: u8) -> [u8; MOST] {
+pub fn ones_of(field: &Field, a: u8) -> [u8; MOST] {
     std::array::from_fn(|bit| if bit < field.degree { joined(field, &[a], bit) as u8 } else { 0 })
 }
 

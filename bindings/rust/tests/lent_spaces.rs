@@ -81,6 +81,18 @@ fn accepted_gates() {
     }
 }
 
+#[test]
+fn accepted_circulants() {
+    let rows: [(Vec<u8>, Vec<u8>); 3] = [
+        (text(&[&[5, 283, 4, 3], &[1, 2, 3]]), text(&[&[0, 14, 38, 152], &[1, 1, 2, 3]])),
+        (text(&[&[5, 7, 2, 2], &[3, 2]]), text(&[&[0, 2, 4, 8], &[2, 3]])),
+        (text(&[&[5, 19, 3, 4], &[1, 2, 3, 4]]), text(&[&[0, 1, 9, 27], &[1, 1, 2]])),
+    ];
+    for (request, expected) in rows {
+        check_spaces(&request, &expected, 0, expected.len() + 1);
+    }
+}
+
 /// The longest list there is: it fits just its length, and one byte less leaves every byte as it was.
 #[test]
 fn the_longest_gates() {
@@ -136,6 +148,23 @@ fn every_refusal_of_gates() {
 }
 
 #[test]
+fn every_refusal_of_circulants() {
+    let refused: [(u32, Vec<u8>); 8] = [
+        (1, b"     5    19     4     4\n".to_vec()),
+        (3, text(&[&[5, 3, 9, 0]])),
+        (4, text(&[&[5, 21, 9, 0]])),
+        (5, text(&[&[5, 19, 9, 0]])),
+        (6, text(&[&[5, 19, 4, 9], &[16; 9]])),
+        (7, text(&[&[5, 19, 4, 2], &[16, 0]])),
+        (8, text(&[&[5, 19, 4, 2], &[7, 7]])),
+        (9, text(&[&[5, 19, 4, 2], &[1, 2]])),
+    ];
+    for (number, request) in refused {
+        check_spaces(&request, &text(&[&[number]]), number, 9);
+    }
+}
+
+#[test]
 fn no_request_at_all() {
     check_spaces(b"", &text(&[&[1]]), 1, 9);
 }
@@ -146,7 +175,13 @@ fn in_a_thread_with_the_stated_stack() {
         &[1, 415, 8, 16],
         &[22, 23, 52, 53, 74, 75, 104, 105, 146, 147, 176, 177, 206, 207, 236, 237],
     ]);
-    let expected = text(&[&[0, 176, 232, 1856], &[52, 53, 75, 177, 105, 207, 206, 146]]);
+    answered_in_a_thread(request, text(&[&[0, 176, 232, 1856], &[52, 53, 75, 177, 105, 207, 206, 146]]));
+    let request = text(&[&[5, 283, 8, 8], &[1, 2, 3, 4, 5, 6, 7, 8]]);
+    answered_in_a_thread(request, text(&[&[0, 53, 109, 872], &[1, 1, 3, 1, 8, 4, 5, 6]]));
+}
+
+/// Calls in a thread whose stack has just the bytes that are stated.
+fn answered_in_a_thread(request: Vec<u8>, expected: Vec<u8>) {
     let call = move || {
         let mut space = lent(expected.len());
         let reply = answer(&request, &mut space);

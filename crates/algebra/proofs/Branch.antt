@@ -1,4 +1,4 @@
--- The branch number is the least activity of a nonzero input; with an entry 0 it is at most the order (`null-entry-light`).
+-- The branch number is the least activity of a nonzero input; with an entry 0 it is at most the order (`null-entry-light`), so not MDS.
 -- Assumes nothing.
 use mathlib.Core.Path.{_≡_, refl, ap, _∙_}
 use mathlib.Core.Bool.{Bool, true, false, cond}
@@ -10,7 +10,7 @@ use native.Mathlib.Decide.{ℕ-discrete}
 use native.Mathlib.Omega.{arith}
 use lib.Dec.{eqb}
 use lib.ListN.{length, getD}
-use borrow.Author.Tests.{eqb-true, eq-eqb}
+use borrow.Author.Tests.{eqb-true, eq-eqb, ne-eqb}
 use Rattle.algebra.specs.Operations.{Operations}
 use Rattle.algebra.proofs.FieldLaws.{Field}
 use Rattle.algebra.specs.Matrix.{words, apply, weight, activity, unlessZero, leastActivity, branchNumber, isMds}
@@ -151,3 +151,10 @@ module _ (K : Operations) (L : Field K) (elements : List (K .Element)) (complete
       decide : (t : Bool) → isMds K elements n f ≡ t → isMds K elements n f ≡ false
       decide true m = absurd (let heavy = mds-activity m x e h in omega arith)
       decide false m = m
+
+  -- an entry 0: not MDS
+  pub null-entry-not-mds : (i j : ℕ) → i < n → j < n → f i j ≡ K .null → isMds K elements n f ≡ false
+  unfolding isMds
+  null-entry-not-mds i j l m z =
+      let light : branchNumber K elements n f ≤ n = null-entry-light K (null-laws K L) n f i j l m z elements (complete (K .null)) (complete (K .one)) in
+      ne-eqb _ (suc n) (λ e. omega arith)

@@ -4,19 +4,16 @@ use mathlib.Core.Path.{_≡_, refl, sym, ap, ap₂, _∙_}
 use mathlib.Core.Bool.{true, false}
 use mathlib.Core.List.{List, List·Memᴰ}
 use mathlib.Core.Logic.{_≢_}
-use Prim.Native.Nat.{ℕ, suc, _^_, _≤_, _<_}
+use Prim.Native.Nat.{ℕ, _^_, _<_}
 use native.Mathlib.Decide.{ℕ-discrete}
-use native.Mathlib.Omega.{arith}
-use borrow.Author.Tests.{ne-eqb}
 use lib.Bits.{bitXor, xor-comm, xor-zero-r, xor-lt}
 use lib.ListN.{getD}
 use lib.Pow.{pow-pos}
 use Rattle.algebra.specs.Operations.{Operations}
 use Rattle.algebra.proofs.FieldLaws.{Field}
-use Rattle.algebra.specs.Matrix.{sum, hadamard, branchNumber, isMds, isInvolution}
+use Rattle.algebra.specs.Matrix.{sum, hadamard, isMds, isInvolution}
 use Rattle.algebra.proofs.Sums.{additive, delta, delta-same, delta-other, sum-cong, sum-permuted, sum-paired, square-sum, square-one}
-use Rattle.algebra.proofs.Weights.{null-laws}
-use Rattle.algebra.proofs.Branch.{null-entry-light}
+use Rattle.algebra.proofs.Branch.{null-entry-not-mds}
 use Rattle.algebra.proofs.Involution.{product, involution-identity, identity-involution}
 use Rattle.algebra.proofs.Xor.{xor-assoc, xor-xor, xor-between, xor-zero, xor-own, xor-moves}
 
@@ -69,8 +66,5 @@ module _ (K : Operations) (L : Field K) (k : ℕ) (row : List (K .Element)) wher
 
     -- a zero in the row stands in the first column
     pub null-not-mds : (a : ℕ) → a < 2 ^ k → getD row a (K .null) ≡ K .null → isMds K elements (2 ^ k) (hadamard K row) ≡ false
-    unfolding hadamard isMds
-    null-not-mds a l z =
-        let light : branchNumber K elements (2 ^ k) (hadamard K row) ≤ 2 ^ k =
-        null-entry-light K (null-laws K L) (2 ^ k) (hadamard K row) a 0 l (pow-pos k) (rw xor-zero-r z) elements (complete (K .null)) (complete (K .one)) in
-        ne-eqb _ (suc (2 ^ k)) (λ e. omega arith)
+    unfolding hadamard
+    null-not-mds a l z = null-entry-not-mds K L elements complete (2 ^ k) (hadamard K row) a 0 l (pow-pos k) (rw xor-zero-r z)

@@ -17,3 +17,4 @@ pub mod Kernel
 pub mod Choices
 pub mod Blocks
 pub mod Planes
+pub mod Circulant

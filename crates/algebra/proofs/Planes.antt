@@ -1,5 +1,6 @@
 -- Hadamard matrices of order 2 ^ k and planes of places: a row whose sum over a coset is 0 is no MDS row, nor is one with equal products of
--- the entries at two pairs of places of a plane. And where entries and such products differ, the blocks of two lines are regular.
+-- the entries at two pairs of places of a plane, as no matrix is with equal products across two lines and two columns (`two-by-two-not-mds`).
+-- And where entries and such products differ, the blocks of two lines are regular.
 -- Assumes nothing.
 use mathlib.Core.Path.{_≡_, refl, sym, ap, ap₂, _∙_}
 use mathlib.Core.Bool.{Bool, true, false, cond, xor}
@@ -21,8 +22,7 @@ use Rattle.algebra.proofs.Sums.{le-or-lt, additive, Naturals, naturals,
 use Rattle.algebra.proofs.Sums.{times-null, equal-of-sum, square-plus, square-null}
 use Rattle.algebra.proofs.Weights.{length-apply, getD-apply, sum-le, sum-ones, counts, oneUnless-le, weight-tabulate, weight-sum, weight-zero, weight-one, null-laws, weight-nulls}
 use Rattle.algebra.proofs.Laws.{null-plus, null-not}
-use Rattle.algebra.proofs.Branch.{light-not-mds}
-use Rattle.algebra.proofs.Hadamard.{null-not-mds}
+use Rattle.algebra.proofs.Branch.{light-not-mds, null-entry-not-mds}
 use Rattle.algebra.proofs.Xor.{xor-xor, xor-between, xor-zero, xor-own}
 
 -- ---- sums over some of the places
@@ -195,61 +195,74 @@ module _ (K : Operations) (L : Field K) (n : ℕ) (a b : ℕ) (v w : K .Element)
   first-pair l d =
       getD-tabulate n _ a (K .null) l ∙ ap₂ (K .plus) (delta-same K a a v refl) (delta-other K a b w d) ∙ L .plus-null v
 
+-- ---- blocks of two lines and two columns
+
+-- equal products across: the block is singular, and a kernel of it is an input that is too light
+pub two-by-two-not-mds : (K : Operations) (L : Field K) (elements : List (K .Element)) (complete : (a : K .Element) → List·Memᴰ a elements) (n : ℕ) (f : ℕ → ℕ → K .Element)
+    (i1 i2 j1 j2 : ℕ) → i1 < n → i2 < n → j1 < n → j2 < n → i1 ≢ i2 → j1 ≢ j2
+    → K .times (f i1 j1) (f i2 j2) ≡ K .times (f i1 j2) (f i2 j1) → isMds K elements n f ≡ false
+unfolding activity pair
+two-by-two-not-mds K L elements complete n f i1 i2 j1 j2 li1 li2 lj1 lj2 lines columns e = decide (K .isNull (f i1 j2)) refl
+  where
+    x : List (K .Element)
+    x = pair K L n j1 j2 (f i1 j2) (f i1 j1)
+
+    image : List (K .Element)
+    image = apply K n f x
+
+    -- line i1
+    upper : getD image i1 (K .null) ≡ K .null
+    upper =
+        word-pair K L n j1 j2 (f i1 j2) (f i1 j1) f lj1 lj2 i1 li1
+        ∙ ap (K .plus (K .times (f i1 j1) (f i1 j2))) (L .times-comm (f i1 j2) (f i1 j1))
+        ∙ L .plus-self (K .times (f i1 j1) (f i1 j2))
+
+    -- line i2
+    lower : getD image i2 (K .null) ≡ K .null
+    lower =
+        word-pair K L n j1 j2 (f i1 j2) (f i1 j1) f lj1 lj2 i2 li2
+        ∙ ap₂ (K .plus) (L .times-comm (f i2 j1) (f i1 j2) ∙ sym e) (L .times-comm (f i2 j2) (f i1 j1))
+        ∙ L .plus-self (K .times (f i1 j1) (f i2 j2))
+
+    input : K .isNull (f i1 j2) ≡ false → 0 < weight K x
+    input z =
+        ⊎-elim
+        (λ q. absurd (null-not K L (f i1 j2) z (sym (first-pair K L n j1 j2 (f i1 j2) (f i1 j1) lj1 columns) ∙ weight-zero K L x q j1)))
+        (λ q. q) (eq-zero-or-pos (weight K x))
+
+    decide : (t : Bool) → K .isNull (f i1 j2) ≡ t → isMds K elements n f ≡ false
+    decide true z = null-entry-not-mds K L elements complete n f i1 j2 li1 lj2 (L .is-null (f i1 j2) z)
+    decide false z =
+        light-not-mds K L elements complete n f x (length-tabulate n _) (input z)
+        (omega (
+          arith,
+          weight-pair K L n j1 j2 (f i1 j2) (f i1 j1) lj1 lj2,
+          weight-nulls K (null-laws K L) n image (length-apply K n f x) i1 i2 li1 li2 lines upper lower,
+        ))
+
 -- ---- products of two entries
 
 module _ (K : Operations) (L : Field K) (k : ℕ) (row : List (K .Element)) (elements : List (K .Element)) (complete : (a : K .Element) → List·Memᴰ a elements) where
-  -- equal products of the entries at a and b and at c and d, whose exclusive or is 0: the block of the lines 0 and a + c and the columns a and d
-  -- is singular, and a kernel of it is an input that is too light
+  -- equal products of the entries at a and b and at c and d, whose exclusive or is 0: in the block of the lines 0 and a + c and the columns a and d
+  -- the products across are equal
   pub products-not-mds : (a b c d : ℕ) → a < 2 ^ k → b < 2 ^ k → c < 2 ^ k → d < 2 ^ k → a ≢ c → a ≢ d → bitXor (bitXor a b) c ≡ d
       → K .times (getD row a (K .null)) (getD row b (K .null)) ≡ K .times (getD row c (K .null)) (getD row d (K .null))
       → isMds K elements (2 ^ k) (hadamard K row) ≡ false
-  unfolding activity hadamard pair
-  products-not-mds a b c d la lb lc ld ac ad plane e = decide (K .isNull (h d)) refl
+  unfolding hadamard
+  products-not-mds a b c d la lb lc ld ac ad plane e =
+      two-by-two-not-mds K L elements complete (2 ^ k) (hadamard K row) 0 (bitXor a c) a d (pow-pos k) (xor-lt k a c la lc) la ld
+      (λ q. ac (xor-zero a c (sym q))) ad
+      (ap₂ (λ (i j : ℕ). K .times (h i) (h j)) (xor-zero-l a) across
+      ∙ e ∙ L .times-comm (h c) (h d)
+      ∙ sym (ap₂ (λ (i j : ℕ). K .times (h i) (h j)) (xor-zero-l d) (ap (λ (i : ℕ). bitXor i a) (xor-comm a c) ∙ xor-xor c a)))
     where
       h : ℕ → K .Element
       h i = getD row i (K .null)
-
-      x : List (K .Element)
-      x = pair K L (2 ^ k) a d (h d) (h a)
-
-      image : List (K .Element)
-      image = apply K (2 ^ k) (hadamard K row) x
-
-      -- line 0
-      upper : getD image 0 (K .null) ≡ K .null
-      upper =
-          word-pair K L (2 ^ k) a d (h d) (h a) (hadamard K row) la ld 0 (pow-pos k)
-          ∙ ap₂ (λ (i j : ℕ). K .plus (K .times (h i) (h d)) (K .times (h j) (h a))) (xor-zero-l a) (xor-zero-l d)
-          ∙ ap (K .plus (K .times (h a) (h d))) (L .times-comm (h d) (h a))
-          ∙ L .plus-self (K .times (h a) (h d))
 
       across : bitXor (bitXor a c) d ≡ b
       across =
           ap (bitXor (bitXor a c)) (sym plane ∙ xor-comm (bitXor a b) c) ∙ xor-between a c (bitXor a b)
           ∙ ap (bitXor a) (xor-comm a b) ∙ xor-comm a (bitXor b a) ∙ xor-xor b a
-
-      -- line a + c
-      lower : getD image (bitXor a c) (K .null) ≡ K .null
-      lower =
-          word-pair K L (2 ^ k) a d (h d) (h a) (hadamard K row) la ld (bitXor a c) (xor-lt k a c la lc)
-          ∙ ap₂ (λ (i j : ℕ). K .plus (K .times (h i) (h d)) (K .times (h j) (h a))) (ap (λ (i : ℕ). bitXor i a) (xor-comm a c) ∙ xor-xor c a) across
-          ∙ ap₂ (K .plus) (sym e) (L .times-comm (h b) (h a))
-          ∙ L .plus-self (K .times (h a) (h b))
-
-      input : K .isNull (h d) ≡ false → 0 < weight K x
-      input z =
-          ⊎-elim
-          (λ q. absurd (null-not K L (h d) z (sym (first-pair K L (2 ^ k) a d (h d) (h a) la ad) ∙ weight-zero K L x q a))) (λ q. q) (eq-zero-or-pos (weight K x))
-
-      decide : (t : Bool) → K .isNull (h d) ≡ t → isMds K elements (2 ^ k) (hadamard K row) ≡ false
-      decide true z = null-not-mds K L k row elements complete d ld (L .is-null (h d) z)
-      decide false z =
-          light-not-mds K L elements complete (2 ^ k) (hadamard K row) x (length-tabulate (2 ^ k) _) (input z)
-          (omega (
-            arith,
-            weight-pair K L (2 ^ k) a d (h d) (h a) la ld,
-            weight-nulls K (null-laws K L) (2 ^ k) image (length-apply K (2 ^ k) (hadamard K row) x) 0 (bitXor a c) (pow-pos k) (xor-lt k a c la lc) (λ q. ac (xor-zero a c (sym q))) upper lower,
-          ))
 
   -- equal entries at two places, by their squares
   pub equal-not-mds : (a b : ℕ) → a < 2 ^ k → b < 2 ^ k → a ≢ b → getD row a (K .null) ≡ getD row b (K .null) → isMds K elements (2 ^ k) (hadamard K row) ≡ false

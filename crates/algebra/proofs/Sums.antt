@@ -217,6 +217,16 @@ module _ (K : Operations) (L : Field K) where
   square-sum zero f = times-null (K .null)
   square-sum (suc n) f = square-plus (sum K n f) (f n) ∙ ap (λ s. K .plus s (K .times (f n) (f n))) (square-sum n f)
 
+  -- a double sum of values that are the same both ways is the sum over the diagonal
+  pub sum-symmetric : (n : ℕ) (f : ℕ → ℕ → K .Element) → ((i j : ℕ) → f i j ≡ f j i) → sum K n (λ i. sum K n (λ j. f i j)) ≡ sum K n (λ i. f i i)
+  unfolding sum
+  sum-symmetric zero f same = refl
+  sum-symmetric (suc n) f same =
+      ap (λ s. K .plus s (K .plus (sum K n (λ j. f n j)) (f n n)))
+      (sum-plus K (additive K L) n (λ i. sum K n (λ j. f i j)) (λ i. f i n)
+      ∙ ap₂ (K .plus) (sum-symmetric n f same) (sum-cong K n (λ i. f i n) (λ j. f n j) (λ i l. same i n)))
+      ∙ plus-between (sum K n (λ i. f i i)) (sum K n (λ j. f n j)) (f n n)
+
   -- the value at the smaller of the places i and σ i, 0 at the larger
   halved : (ℕ → ℕ) → (ℕ → K .Element) → ℕ → K .Element
   halved σ f i = cond (ltb i (σ i)) (f i) (K .null)

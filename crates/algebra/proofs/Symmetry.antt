@@ -20,7 +20,7 @@ use Rattle.algebra.proofs.Sums.{additive, Naturals, naturals, turned, c
 use Rattle.algebra.proofs.Weights.{length-apply, getD-apply, counts, weight-tabulate, weight-sum}
 use Rattle.algebra.proofs.Branch.{branch-le, branch-attained}
 use Rattle.algebra.proofs.Involution.{involution-back, back-involution}
-use Rattle.algebra.proofs.Bridge.{apply-cong, branch-cong, involution-cong}
+use Rattle.algebra.proofs.Bridge.{branch-cong, involution-cong}
 use Rattle.algebra.proofs.Hadamard.{involution-sum, sum-involution}
 use Rattle.algebra.proofs.Xor.{xor-assoc, xor-between, xor-own}
 
@@ -118,26 +118,12 @@ module _ (K : Operations) (L : Field K) (elements : List (K .Element)) (complete
 
 -- ---- Hadamard matrices
 
+-- lines and columns moved by exclusive or with t: the matrix stays as it is
+pub hadamard-translated : (K : Operations) (row : List (K .Element)) (t i j : ℕ) → hadamard K row (bitXor i t) (bitXor j t) ≡ hadamard K row i j
+unfolding hadamard
+hadamard-translated K row t i j = ap (λ (c : ℕ). getD row c (K .null)) (ap (bitXor (bitXor i t)) (xor-comm j t) ∙ xor-between i t j)
+
 module _ (K : Operations) (L : Field K) (k : ℕ) (row : List (K .Element)) where
-  -- an input moved by exclusive or with t has the product moved likewise
-  pub apply-translate : (t : ℕ) → t < 2 ^ k → (x : List (K .Element))
-      → apply K (2 ^ k) (hadamard K row) (moved K (2 ^ k) (λ i. bitXor i t) x) ≡ moved K (2 ^ k) (λ i. bitXor i t) (apply K (2 ^ k) (hadamard K row) x)
-  unfolding hadamard
-  apply-translate t l x =
-      sym (apply-cong K (2 ^ k) (λ i j. hadamard K row (bitXor i t) (bitXor j t)) (hadamard K row)
-      (λ i j m h. ap (λ (c : ℕ). getD row c (K .null)) (ap (bitXor (bitXor i t)) (xor-comm j t) ∙ xor-between i t j)) (moved K (2 ^ k) (λ i. bitXor i t) x))
-      ∙ apply-moved K L (2 ^ k) (hadamard K row) _ _ (xor-own k t l) _ _ (xor-own k t l) x
-
-  -- so both weights stay
-  pub translate : (t : ℕ) → t < 2 ^ k → (x : List (K .Element)) → length x ≡ 2 ^ k
-      → (weight K (moved K (2 ^ k) (λ i. bitXor i t) x) ≡ weight K x)
-      × (weight K (apply K (2 ^ k) (hadamard K row) (moved K (2 ^ k) (λ i. bitXor i t) x)) ≡ weight K (apply K (2 ^ k) (hadamard K row) x))
-  translate t l x e =
-      let v = xor-own k t l in (
-        weight-moved K (2 ^ k) _ _ v x e,
-        ap (weight K) (apply-translate t l x) ∙ weight-moved K (2 ^ k) _ _ v (apply K (2 ^ k) (hadamard K row) x) (length-apply K (2 ^ k) (hadamard K row) x),
-      )
-
   -- an affine change of the places
   module _ (σ ρ : ℕ → ℕ) (a : Affine k σ ρ) where
     -- the matrix of the moved row is the matrix with moved lines and columns

@@ -3,7 +3,7 @@
 -- Assumes nothing.
 use mathlib.Core.Bool.{Bool, true, false, cond, _&&_, _||_}
 use mathlib.Core.List.{List, [], _∷_, _++_, map}
-use Prim.Native.Nat.{ℕ, zero, suc, _+_, _/_, _%_, min}
+use Prim.Native.Nat.{ℕ, zero, suc, _+_, _-_, _/_, _%_, min}
 use lib.Bits.{bitXor}
 use lib.Dec.{eqb, ltb}
 use lib.ListN.{getD}
@@ -48,6 +48,10 @@ apply K n f x = applyTo K n n f x
 -- the Hadamard matrix of a row: the row's element at (i exclusive or j) at line i, column j
 unfoldable pub hadamard : (K : Operations) → List (K .Element) → ℕ → ℕ → K .Element
 hadamard K row i j = getD row (bitXor i j) (K .null)
+
+-- the circulant matrix of order n of a row: the row's element at (j − i) modulo n at line i, column j
+unfoldable pub circulant : (K : Operations) → ℕ → List (K .Element) → ℕ → ℕ → K .Element
+circulant K n row i j = getD row ((j + (n - i)) % n) (K .null)
 
 -- ---- the determinant
 

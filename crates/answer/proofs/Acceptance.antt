@@ -20,6 +20,7 @@ use Rattle.matrix.proofs.Tallies.{rowCount-le}
 use Rattle.gates.specs.Gates.{Gate, gate, gatesOfMatrix, carriersOfMatrix}
 use Rattle.gates.specs.Netlist.{Netlist}
 use Rattle.gates.proofs.Netlists.{bits-few, gates-few, netlist}
+use Rattle.search.specs.declared.Family.{Family}
 use Rattle.search.specs.Answer.{sumOf, someTooLarge}
 use Rattle.search.specs.Demands.{countOfRow}
 use Rattle.search.proofs.LetterCounts.{fits-at}
@@ -44,7 +45,7 @@ pub record Fitting (l : List (List ℕ)) : Type 0 where
 abbrev FitsWhere : Kind → Type 0
 FitsWhere kind = (r : Request) → firstNumber (kind .faults r) ≡ 0 → Fitting (kind .lines r)
 
--- ---- kind 1
+-- ---- kinds 1 and 5
 
 two-six : (a b : List ℕ) → SixDigits a → SixDigits b → (i : ℕ) → SixDigits (getD (a ∷ b ∷ []) i [])
 two-six a b h k zero = h
@@ -63,10 +64,10 @@ row-fits p n row h u e small =
       short = omega (arith, two-length (0 ∷ sumOf p n row ∷ countOfRow p n row ∷ n * countOfRow p n row ∷ []) row, e, u);
     }
 
-search-fits : FitsWhere search
+search-fits : (family : Family) → FitsWhere (search family)
 unfolding search
-search-fits r e =
-    let a = search-accepted (r .polynomial) (r .order) (r .values) e in
+search-fits family r e =
+    let a = search-accepted family (r .polynomial) (r .order) (r .values) e in
     rw (a .lightest) (row-fits (r .polynomial) (r .order) (a .row) (a .modulus) (a .high) (a .entries) (a .small))
 
 -- ---- kind 2

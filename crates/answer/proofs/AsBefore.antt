@@ -15,6 +15,7 @@ use Rattle.refusal.proofs.Faults.{first-passed, after-number-is}
 use Rattle.matrix.specs.Numbers.{numbers, elements}
 use Rattle.matrix.specs.Answers.{yesNo, checkOf}
 use Rattle.matrix.proofs.CountsBefore.{rowCountBefore, matrixCountBefore, line-as-before, matrix-as-before}
+use Rattle.search.specs.declared.Family.the-variants.{Hadamard, Circulant}
 use Rattle.search.specs.Lightest.{Best, nothing, found}
 use Rattle.search.specs.Shape.{hadamardShape}
 use Rattle.search.specs.Answer.{sumOf, lightestRow}
@@ -50,12 +51,12 @@ checkLinesBefore p n f =
     ∷ [])
     ∷ []
 
--- the kinds: the same numbers and faults, and these lines; kind 4, which came later, as it is
+-- the kinds: the same numbers and faults, and these lines; kinds 4 and 5, which came later, as they are
 unfoldable pub searchBefore : Kind
 searchBefore =
     record {
       number = 1;
-      faults = search .faults;
+      faults = search Hadamard .faults;
       lines = λ r. bestLinesBefore (r .polynomial) (r .order) (lightestRow hadamardShape (r .polynomial) (r .order) (r .values));
     }
 
@@ -68,7 +69,7 @@ checkBefore =
     }
 
 unfoldable pub kindsBefore : List Kind
-kindsBefore = searchBefore ∷ checkBefore ∷ survey ∷ gates ∷ []
+kindsBefore = searchBefore ∷ checkBefore ∷ survey ∷ gates ∷ search Circulant ∷ []
 
 -- what was due to a text
 unfoldable pub dueBefore : List ℕ → Answer (List (List ℕ))
@@ -94,12 +95,12 @@ unfolding rowLines rowLinesBefore
 row-lines-before p n row h =
     ap (λ (c : ℕ). (0 ∷ sumOf p n row ∷ c ∷ n * c ∷ []) ∷ row ∷ []) (line-as-before p n (λ j. getD row j 0) h)
 
-search-alike : Alike search searchBefore
+search-alike : Alike (search Hadamard) searchBefore
 unfolding search searchBefore
 search-alike r = (
   refl,
   λ e h.
-      let a = search-accepted (r .polynomial) (r .order) (r .values) e in
+      let a = search-accepted Hadamard (r .polynomial) (r .order) (r .values) e in
       rw (a .lightest) (row-lines-before (r .polynomial) (r .order) (a .row) (a .nonzero)),
 )
 
@@ -125,10 +126,11 @@ chosen-alike false x y x′ y′ h k = k
 kinds-alike : (k : ℕ) → Alike (kindAmong kinds k) (kindAmong kindsBefore k)
 unfolding kinds kindsBefore kindAmong search searchBefore check checkBefore survey gates
 kinds-alike k =
-    chosen-alike (eqb k 1) search _ searchBefore _ search-alike
+    chosen-alike (eqb k 1) (search Hadamard) _ searchBefore _ search-alike
     (chosen-alike (eqb k 2) check _ checkBefore _ check-alike
     (chosen-alike (eqb k 3) survey _ survey _ (λ r. (refl, λ e h. refl))
-    (chosen-alike (eqb k 4) gates _ gates _ (λ r. (refl, λ e h. refl)) (λ r. (refl, λ e h. refl)))))
+    (chosen-alike (eqb k 4) gates _ gates _ (λ r. (refl, λ e h. refl))
+    (chosen-alike (eqb k 5) (search Circulant) _ (search Circulant) _ (λ r. (refl, λ e h. refl)) (λ r. (refl, λ e h. refl))))))
 
 -- ---- every text
 

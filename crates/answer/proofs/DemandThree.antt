@@ -1,8 +1,8 @@
 -- Demand 3, of request texts. `demand-three-text`: what is due to a well-formed search is the demanded row, or 9.
 -- `accepted-search` and `accepted-row`: a search that is answered with lines is well formed, and they are those of the demanded row.
--- `none-exactly`: 9 is due exactly to a well-formed search over whose candidates no row has both properties. `search-answered`: what a
--- call returns and leaves for a search, whatever space is lent; `none-answered`: its part on 9. `lowest-refusal`: the number is the
--- lowest that applies, by document 01's list. Assumes nothing.
+-- `none-exactly`: 9 is due to a search exactly if it is well formed and no row over its candidates has what is asked. `search-answered`: what a
+-- call returns and leaves for a search, whatever space is lent; `none-answered`: its part on 9; `nine-answered`: 9 is returned to searches alone.
+-- Each of them for both families. `lowest-refusal`: the number is the lowest that applies, by document 01's list. Assumes nothing.
 use mathlib.Core.Path.{_≡_, refl, sym, ap, _∙_}
 use mathlib.Core.Logic.{_↔_, _⊎_, inl, inr, ⊎-elim}
 use mathlib.Core.Bool.{Bool, true, false, cond}
@@ -16,12 +16,13 @@ use Rattle.refusal.specs.Refusals.{fault, firstNumber, Applies, Answer, answerA
 use Rattle.refusal.proofs.Faults.{first-applies, first-none, first-lowest, applies-above, applies-most, none-first, after-taken, after-left, after-empty}
 use Rattle.refusal.specs.declared.Refusal.the-variants.{NoRow as NoRowReason}
 use Rattle.algebra.proofs.Sums.{le-or-lt}
+use Rattle.search.specs.declared.Family.{Family}
 use Rattle.search.specs.Lightest.{Best, nothing, found}
 use Rattle.search.specs.Answer.{isNone}
 use Rattle.search.proofs.Demands.{demand-three, demand-three-none, demand-three-only}
 use Rattle.text.specs.Text.{lineText, answerText}
 use Rattle.text.specs.Reading.{kindOf, polynomialOf, orderOf}
-use Rattle.answer.specs.Due.{rowLines, bestLines, faultsOf, due}
+use Rattle.answer.specs.Due.{searchNumber, rowLines, bestLines, faultsOf, due}
 use Rattle.answer.specs.Answered.{numberReturned, lengthReturned, writtenAt, Replied, Answered}
 use Rattle.answer.specs.Demands.{WellFormedSearch, NoRow, DemandedBy, rowText, SearchDue, row-due, none-due, RowFits, RowTooLong, RowStands, SearchAnswered, Faultless, Lowest, refused, none, accepted, too-short}
 use Rattle.answer.proofs.EveryKind.{faults-numbered, faults-ascend, faults-to-nine, nine-is-search, due-number}
@@ -31,69 +32,78 @@ use Rattle.answer.proofs.WellFormed.{best, only-nine, passed}
 
 -- ---- a well-formed search
 
-module _ (text : List ℕ) (w : WellFormedSearch text) where
+module _ (family : Family) (text : List ℕ) (w : WellFormedSearch family text) where
   -- only one row is demanded
-  one-row : (r s : List ℕ) → DemandedBy text r → DemandedBy text s → r ≡ s
+  one-row : (r s : List ℕ) → DemandedBy family text r → DemandedBy family text s → r ≡ s
   one-row r s d e =
-      let q = demand-three-only _ _ _ (passed text w .fits) r d in
-      let q′ = demand-three-only _ _ _ (passed text w .fits) s e in
+      let q = demand-three-only family _ _ _ (passed family text w .fits) r d in
+      let q′ = demand-three-only family _ _ _ (passed family text w .fits) s e in
       cc
 
   -- so its text does not both fit a space and exceed it
-  not-both : {space : List ℕ} → RowFits text space → RowTooLong text space → ⊥
+  not-both : {space : List ℕ} → RowFits family text space → RowTooLong family text space → ⊥
   not-both f g =
       let e = ap (λ (r : List ℕ). length (rowText text r)) (one-row (f .row) (g .row) (f .demanded) (g .demanded)) in
       omega (arith, f .fits, g .too-long)
 
-  pub demand-three-text : SearchDue text (due text)
+  pub demand-three-text : SearchDue family text (due text)
   unfolding NoRow
-  demand-three-text = rw (only-nine text w) (go (best text) refl)
+  demand-three-text = rw (only-nine family text w) (go (best family text) refl)
     where
       rows : List ℕ → List (List ℕ)
       rows = rowLines (polynomialOf text) (orderOf text)
 
-      go : (b : Best) → best text ≡ b → SearchDue text (answerAfter [] (fault 9 (isNone b) ∷ []) (bestLines (polynomialOf text) (orderOf text) b))
+      go : (b : Best) → best family text ≡ b → SearchDue family text (answerAfter [] (fault 9 (isNone b) ∷ []) (bestLines (polynomialOf text) (orderOf text) b))
       go nothing e =
-          rw (← after-taken {A = List (List ℕ)} [] [] NoRowReason true [] refl) (none-due (demand-three-none _ _ _ (passed text w .fits) .0 e))
+          rw (← after-taken {A = List (List ℕ)} [] [] NoRowReason true [] refl) (none-due (demand-three-none family _ _ _ (passed family text w .fits) .0 e))
       go (found r) e =
           rw (← after-left {A = List (List ℕ)} [] (rows r) 9 false [] refl, ← after-empty {A = List (List ℕ)} [] (rows r))
-          (row-due r (demand-three _ _ _ (passed text w .fits) r e))
+          (row-due r (demand-three family _ _ _ (passed family text w .fits) r e))
 
 -- ---- what is answered
 
 -- what is due without a refusal
-pub accepted-search : (text : List ℕ) → kindOf text ≡ 1 → due text .number ≡ 0 → WellFormedSearch text
-accepted-search text kind e =
-    well-formed-exactly text kind .1 (λ k a l. first-none (faultsOf text) (faults-numbered text) (sym (due-number text) ∙ e) k a)
+pub accepted-search : (family : Family) (text : List ℕ) → kindOf text ≡ searchNumber family → due text .number ≡ 0 → WellFormedSearch family text
+accepted-search family text kind e =
+    well-formed-exactly family text kind .1 (λ k a l. first-none (faultsOf text) (faults-numbered text) (sym (due-number text) ∙ e) k a)
 
-pub accepted-row : (text : List ℕ) → kindOf text ≡ 1 → due text .number ≡ 0
-    → (r : List ℕ) × DemandedBy text r × (due text .value ≡ rowLines (polynomialOf text) (orderOf text) r)
-accepted-row text kind e = go (demand-three-text text (accepted-search text kind e)) e
+pub accepted-row : (family : Family) (text : List ℕ) → kindOf text ≡ searchNumber family → due text .number ≡ 0
+    → (r : List ℕ) × DemandedBy family text r × (due text .value ≡ rowLines (polynomialOf text) (orderOf text) r)
+accepted-row family text kind e = go (demand-three-text family text (accepted-search family text kind e)) e
   where
-    go : {d : Answer (List (List ℕ))} → SearchDue text d → d .number ≡ 0
-        → (r : List ℕ) × DemandedBy text r × (d .value ≡ rowLines (polynomialOf text) (orderOf text) r)
+    go : {d : Answer (List (List ℕ))} → SearchDue family text d → d .number ≡ 0
+        → (r : List ℕ) × DemandedBy family text r × (d .value ≡ rowLines (polynomialOf text) (orderOf text) r)
     go (row-due r h) z = (r, h, refl)
     go (none-due h) z = let y : ⊥ = omega arith in absurd y
 
 -- ---- 9
 
-nine-search : (text : List ℕ) → due text .number ≡ 9 → WellFormedSearch text
-nine-search text e =
+-- a search to which 9 is due is well formed
+well-formed-nine : (family : Family) (text : List ℕ) → kindOf text ≡ searchNumber family → due text .number ≡ 9 → WellFormedSearch family text
+well-formed-nine family text kind e =
     let nine : firstNumber (faultsOf text) ≡ 9 = sym (due-number text) ∙ e in
-    well-formed-exactly text (nine-is-search text (first-applies (faultsOf text) 8 nine)) .1
+    well-formed-exactly family text kind .1
     (λ k a l. let lowest : firstNumber (faultsOf text) ≤ k = first-lowest 0 (faultsOf text) (faults-ascend text) k a in omega arith)
 
--- what is due to a search is 9 exactly if no row has both properties
-nine-of : {text : List ℕ} {d : Answer (List (List ℕ))} → SearchDue text d → (d .number ≡ 9) ↔ NoRow text
+-- what is due to a search is 9 exactly if no row has what is asked
+nine-of : {family : Family} {text : List ℕ} {d : Answer (List (List ℕ))} → SearchDue family text d → (d .number ≡ 9) ↔ NoRow family text
 unfolding NoRow
 nine-of (row-due r h) = (λ e. let y : ⊥ = omega arith in absurd y, λ f. absurd (f r (h .has)))
 nine-of (none-due f) = (λ e. f, λ g. refl)
 
-pub none-exactly : (text : List ℕ) → (due text .number ≡ 9) ↔ (WellFormedSearch text × NoRow text)
-none-exactly text = (
-  λ e. let w = nine-search text e in (w, nine-of (demand-three-text text w) .0 e),
-  λ (w, h). nine-of (demand-three-text text w) .1 h,
+pub none-exactly : (family : Family) (text : List ℕ)
+    → ((kindOf text ≡ searchNumber family) × (due text .number ≡ 9)) ↔ (WellFormedSearch family text × NoRow family text)
+none-exactly family text = (
+  λ (kind, e). let w = well-formed-nine family text kind e in (w, nine-of (demand-three-text family text w) .0 e),
+  λ (w, h). (w .kind-is, nine-of (demand-three-text family text w) .1 h),
 )
+
+-- 9 is due to searches alone
+pub nine-search : (text : List ℕ) → due text .number ≡ 9 → (family : Family) × WellFormedSearch family text × NoRow family text
+nine-search text e =
+    let (family, kind) = nine-is-search text (first-applies (faultsOf text) 8 (sym (due-number text) ∙ e)) in
+    let (w, h) = none-exactly family text .0 (kind, e) in
+    (family, w, h)
 
 -- it is returned exactly where it is due, whatever space is lent
 returned-nine : (m : ℕ) (fits : Bool) → (numberReturned m fits ≡ 9) ↔ (m ≡ 9)
@@ -106,8 +116,8 @@ no-fault : (text : List ℕ) → ((k : ℕ) → Applies (faultsOf text) k → �
 no-fault text clear =
     record {
       none-stated = λ k s. clear k (stated-applies s);
-      row-exists = λ kind h.
-          let nine = none-exactly text .1 (well-formed-exactly text kind .1 (λ k a l. clear k a), h) in
+      row-exists = λ family kind h.
+          let nine = none-exactly family text .1 (well-formed-exactly family text kind .1 (λ k a l. clear k a), h) .1 in
           let zero = due-number text ∙ none-first (faultsOf text) clear in
           omega arith;
     }
@@ -115,13 +125,13 @@ no-fault text clear =
 -- ---- what a call returns and leaves
 
 -- for a well-formed search: 0 and the text of the row demanded where it fits, 10 where it does not; or 9 and its line
-data SearchLeaves (text space after : List ℕ) (number size : ℕ) : Type 0 where
-  row-left : RowFits text space → number ≡ 0 → RowStands text space after size → SearchLeaves text space after number size
-  short-left : RowTooLong text space → number ≡ 10 → (after ≡ space) × (size ≡ 0) → SearchLeaves text space after number size
-  none-left : NoRow text → number ≡ 9 → (after ≡ writtenAt (lineText (9 ∷ [])) space) × (size ≡ 0) → SearchLeaves text space after number size
+data SearchLeaves (family : Family) (text space after : List ℕ) (number size : ℕ) : Type 0 where
+  row-left : RowFits family text space → number ≡ 0 → RowStands family text space after size → SearchLeaves family text space after number size
+  short-left : RowTooLong family text space → number ≡ 10 → (after ≡ space) × (size ≡ 0) → SearchLeaves family text space after number size
+  none-left : NoRow family text → number ≡ 9 → (after ≡ writtenAt (lineText (9 ∷ [])) space) × (size ≡ 0) → SearchLeaves family text space after number size
 
-module _ {text space after : List ℕ} {number size : ℕ} where
-  left-by : {d : Answer (List (List ℕ))} → SearchDue text d → Replied d space after number size → SearchLeaves text space after number size
+module _ {family : Family} {text space after : List ℕ} {number size : ℕ} where
+  left-by : {d : Answer (List (List ℕ))} → SearchDue family text d → Replied d space after number size → SearchLeaves family text space after number size
   left-by (none-due h) l = none-left h (l .number-is) (l .bytes, l .size-is ∙ ap (λ (k : ℕ). lengthReturned k (length (answerText []))) (l .number-is))
   left-by (row-due r h) l = go (leb long (length space)) refl
     where
@@ -136,7 +146,7 @@ module _ {text space after : List ℕ} {number size : ℕ} where
           l .bytes
           ∙ ap (λ (t : Bool). cond t (rowText text r ++ drop long space) space) f
 
-      go : (t : Bool) → leb long (length space) ≡ t → SearchLeaves text space after number size
+      go : (t : Bool) → leb long (length space) ≡ t → SearchLeaves family text space after number size
       go true f =
           let z : number ≡ 0 = l .number-is ∙ ap (λ (t : Bool). cond t 0 10) f in
           row-left (record { row = r; demanded = h; fits = leb-true long (length space) f }) z
@@ -146,75 +156,86 @@ module _ {text space after : List ℕ} {number size : ℕ} where
           short-left (record { row = r; demanded = h; too-long = leb-false long (length space) f }) z (bytes-at false f, size-at 10 z)
 
   -- what each number tells
-  with-nine : SearchLeaves text space after number size → number ≡ 9 → (after ≡ writtenAt (lineText (9 ∷ [])) space) × (size ≡ 0)
+  with-nine : SearchLeaves family text space after number size → number ≡ 9 → (after ≡ writtenAt (lineText (9 ∷ [])) space) × (size ≡ 0)
   with-nine (row-left f z s) e = let y : ⊥ = omega arith in absurd y
   with-nine (short-left f z s) e = let y : ⊥ = omega arith in absurd y
   with-nine (none-left f z s) e = s
 
-  with-zero : SearchLeaves text space after number size → number ≡ 0 → RowFits text space × RowStands text space after size
+  with-zero : SearchLeaves family text space after number size → number ≡ 0 → RowFits family text space × RowStands family text space after size
   with-zero (row-left f z s) e = (f, s)
   with-zero (short-left f z s) e = let y : ⊥ = omega arith in absurd y
   with-zero (none-left f z s) e = let y : ⊥ = omega arith in absurd y
 
-  with-ten : SearchLeaves text space after number size → number ≡ 10 → RowTooLong text space × ((after ≡ space) × (size ≡ 0))
+  with-ten : SearchLeaves family text space after number size → number ≡ 10 → RowTooLong family text space × ((after ≡ space) × (size ≡ 0))
   with-ten (row-left f z s) e = let y : ⊥ = omega arith in absurd y
   with-ten (short-left f z s) e = (f, s)
   with-ten (none-left f z s) e = let y : ⊥ = omega arith in absurd y
 
-  one-of : SearchLeaves text space after number size → (number ≡ 9) ⊎ ((number ≡ 0) ⊎ (number ≡ 10))
+  one-of : SearchLeaves family text space after number size → (number ≡ 9) ⊎ ((number ≡ 0) ⊎ (number ≡ 10))
   one-of (row-left f z s) = inr (inl z)
   one-of (short-left f z s) = inr (inr z)
   one-of (none-left f z s) = inl z
 
-  fits-zero : WellFormedSearch text → SearchLeaves text space after number size → RowFits text space → number ≡ 0
+  fits-zero : WellFormedSearch family text → SearchLeaves family text space after number size → RowFits family text space → number ≡ 0
   unfolding NoRow
   fits-zero w (row-left f z s) g = z
-  fits-zero w (short-left f z s) g = absurd (not-both text w g f)
+  fits-zero w (short-left f z s) g = absurd (not-both family text w g f)
   fits-zero w (none-left f z s) g = absurd (f (g .row) (g .demanded .has))
 
-  long-ten : WellFormedSearch text → SearchLeaves text space after number size → RowTooLong text space → number ≡ 10
+  long-ten : WellFormedSearch family text → SearchLeaves family text space after number size → RowTooLong family text space → number ≡ 10
   unfolding NoRow
-  long-ten w (row-left f z s) g = absurd (not-both text w f g)
+  long-ten w (row-left f z s) g = absurd (not-both family text w f g)
   long-ten w (short-left f z s) g = z
   long-ten w (none-left f z s) g = absurd (f (g .row) (g .demanded .has))
 
   -- a search that is not refused with 1 to 8 is well formed
-  not-refused : Answered text space after number size → kindOf text ≡ 1 → (0 < number → number ≤ 8 → ⊥) → WellFormedSearch text
-  not-refused a kind h = well-formed-exactly text kind .1 (go (first-fault a))
+  not-refused : Answered text space after number size → kindOf text ≡ searchNumber family → (0 < number → number ≤ 8 → ⊥) → WellFormedSearch family text
+  not-refused a kind h = well-formed-exactly family text kind .1 (go (first-fault a))
     where
       go : FirstFault text space number → (k : ℕ) → Applies (faultsOf text) k → k ≤ 8 → ⊥
       go (at-fault x low) k y l = let least = low k y in h (applies-above 0 (faultsOf text) (faults-ascend text) number x) (omega arith)
       go (with-room clear fit z) k y l = clear k y
       go (without-room clear short z) k y l = clear k y
 
-  pub search-answered : Answered text space after number size → SearchAnswered text space after number size
+  pub search-answered : Answered text space after number size → SearchAnswered family text space after number size
   search-answered a =
       record {
         nine-exactly = nine;
-        zero-exactly = (λ (kind, z). let w = at-zero kind z in (w, with-zero (left w) z .0), λ (w, f). (w .kind-one, fits-zero w (left w) f));
-        ten-exactly = (λ (kind, z). let w = at-ten kind z in (w, with-ten (left w) z .0), λ (w, f). (w .kind-one, long-ten w (left w) f));
+        zero-exactly = (λ (kind, z). let w = at-zero kind z in (w, with-zero (left w) z .0), λ (w, f). (w .kind-is, fits-zero w (left w) f));
+        ten-exactly = (λ (kind, z). let w = at-ten kind z in (w, with-ten (left w) z .0), λ (w, f). (w .kind-is, long-ten w (left w) f));
         nothing-else = λ w. one-of (left w);
-        nine-leaves = λ z. with-nine (left (nine .0 z .0)) z;
+        nine-leaves = λ kind z. with-nine (left (nine .0 (kind, z) .0)) z;
         zero-leaves = λ kind z. with-zero (left (at-zero kind z)) z .1;
         ten-leaves = λ kind z. with-ten (left (at-ten kind z)) z .1;
       }
     where
-      left : WellFormedSearch text → SearchLeaves text space after number size
-      left w = left-by (demand-three-text text w) (a .reply)
+      left : WellFormedSearch family text → SearchLeaves family text space after number size
+      left w = left-by (demand-three-text family text w) (a .reply)
 
-      at-zero : kindOf text ≡ 1 → number ≡ 0 → WellFormedSearch text
+      at-zero : kindOf text ≡ searchNumber family → number ≡ 0 → WellFormedSearch family text
       at-zero kind z = not-refused a kind (λ h l. omega arith)
 
-      at-ten : kindOf text ≡ 1 → number ≡ 10 → WellFormedSearch text
+      at-ten : kindOf text ≡ searchNumber family → number ≡ 10 → WellFormedSearch family text
       at-ten kind z = not-refused a kind (λ h l. omega arith)
 
-      nine : (number ≡ 9) ↔ (WellFormedSearch text × NoRow text)
-      nine =
-          let returned = returned-nine (due text .number) _ in
-          (λ e. none-exactly text .0 (returned .0 (sym (a .reply .number-is) ∙ e)), λ h. a .reply .number-is ∙ returned .1 (none-exactly text .1 h))
+      returned : (number ≡ 9) ↔ (due text .number ≡ 9)
+      returned =
+          let told = returned-nine (due text .number) _ in
+          (λ e. told .0 (sym (a .reply .number-is) ∙ e), λ e. a .reply .number-is ∙ told .1 e)
 
-  pub none-answered : Answered text space after number size → WellFormedSearch text → (number ≡ 9) ↔ NoRow text
-  none-answered a w = let nine = search-answered a .nine-exactly in (λ e. nine .0 e .1, λ h. nine .1 (w, h))
+      nine : ((kindOf text ≡ searchNumber family) × (number ≡ 9)) ↔ (WellFormedSearch family text × NoRow family text)
+      nine = (
+        λ (kind, e). none-exactly family text .0 (kind, returned .0 e),
+        λ h. let (kind, e) = none-exactly family text .1 h in (kind, returned .1 e),
+      )
+
+  pub none-answered : Answered text space after number size → WellFormedSearch family text → (number ≡ 9) ↔ NoRow family text
+  none-answered a w = let nine = search-answered a .nine-exactly in (λ e. nine .0 (w .kind-is, e) .1, λ h. nine .1 (w, h) .1)
+
+module _ {text space after : List ℕ} {number size : ℕ} where
+  -- 9 is returned to searches alone
+  pub nine-answered : Answered text space after number size → number ≡ 9 → (family : Family) × WellFormedSearch family text × NoRow family text
+  nine-answered a e = nine-search text (returned-nine (due text .number) _ .0 (sym (a .reply .number-is) ∙ e))
 
   -- ---- the lowest number that applies
 
@@ -227,7 +248,7 @@ module _ {text space after : List ℕ} {number size : ℕ} where
           (λ (l : 8 < number).
           let most = applies-most 9 (faultsOf text) (faults-to-nine text) number x in
           let e : number ≡ 9 = omega arith in
-          let (w, h) = search-answered a .nine-exactly .0 e in none w h e)
+          let (family, w, h) = nine-answered a e in none family w h e)
           (le-or-lt number 8)
       go (with-room clear fit z) = accepted (no-fault text clear) fit z
       go (without-room clear short z) = too-short (no-fault text clear) short z

@@ -8,11 +8,13 @@ use lib.ListN.{length, take, drop}
 use Rattle.refusal.specs.Refusals.{answer}
 use Rattle.refusal.specs.declared.Refusal.the-variants.{Form, Kind as UnknownKind}
 use Rattle.refusal.proofs.Faults.{after-taken, after-left}
+use Rattle.search.specs.declared.Family.{Family}
+use Rattle.search.specs.declared.Family.the-variants.{Hadamard, Circulant}
 use Rattle.text.specs.declared.Header.the-variants.{Read}
 use Rattle.text.specs.Reading.{inForm, kindOf, polynomialOf, orderOf, countOf, valuesFrom, valuesOf, saysHeader, headerAnswer}
 use Rattle.text.proofs.Form.{part-is}
 use Rattle.text.proofs.Requests.{header-read}
-use Rattle.answer.specs.Due.{Kind, Request, request, search, check, survey, gates, kinds, kindAmong, dueTo, kindIn, requestIn, faultsOf, due}
+use Rattle.answer.specs.Due.{Kind, Request, request, searchNumber, search, check, survey, gates, kinds, kindAmong, dueTo, kindIn, requestIn, faultsOf, due}
 
 -- ---- by the kind
 
@@ -20,9 +22,10 @@ pub kind-due : {k l : Kind} → k ≡ l → (r : Request) → dueTo k r ≡ dueT
 kind-due e r = ap (λ (k : Kind). dueTo k r) e
 
 module _ (kind : ℕ) where
-  pub kind-search : kind ≡ 1 → search ≡ kindAmong kinds kind
+  pub kind-search : (family : Family) → kind ≡ searchNumber family → search family ≡ kindAmong kinds kind
   unfolding kinds kindAmong search check survey gates
-  kind-search e = rw e
+  kind-search Hadamard e = rw e
+  kind-search Circulant e = rw e
 
   pub kind-check : kind ≡ 2 → check ≡ kindAmong kinds kind
   unfolding kinds kindAmong search check survey gates
@@ -36,9 +39,9 @@ module _ (kind : ℕ) where
   unfolding kinds kindAmong search check survey gates
   kind-gates e = rw e
 
-  pub kind-unknown : (r : Request) → (kind ≡ 1 → ⊥) → (kind ≡ 2 → ⊥) → (kind ≡ 3 → ⊥) → (kind ≡ 4 → ⊥) → answer 2 [] ≡ dueTo (kindAmong kinds kind) r
+  pub kind-unknown : (r : Request) → (kind ≡ 1 → ⊥) → (kind ≡ 2 → ⊥) → (kind ≡ 3 → ⊥) → (kind ≡ 4 → ⊥) → (kind ≡ 5 → ⊥) → answer 2 [] ≡ dueTo (kindAmong kinds kind) r
   unfolding dueTo kinds kindAmong search check survey gates
-  kind-unknown r a b c d = rw (ne-eqb kind 1 a, ne-eqb kind 2 b, ne-eqb kind 3 c, ne-eqb kind 4 d) (after-taken [] [] UnknownKind true [] refl)
+  kind-unknown r a b c d f = rw (ne-eqb kind 1 a, ne-eqb kind 2 b, ne-eqb kind 3 c, ne-eqb kind 4 d, ne-eqb kind 5 f) (after-taken [] [] UnknownKind true [] refl)
 
 -- ---- from the text
 

@@ -10,10 +10,12 @@ use borrow.Author.Tests.{eqb-true}
 use Rattle.refusal.specs.Refusals.{fault, firstNumber, Applies}
 use Rattle.refusal.proofs.Faults.{first-applies, first-passed, numbered, ascends, most, applies-most, lacks, lacks-applies, after-number-is, after-value}
 use Rattle.field.specs.Faults.{polynomialFaults}
+use Rattle.search.specs.declared.Family.{Family}
+use Rattle.search.specs.declared.Family.the-variants.{Hadamard, Circulant}
 use Rattle.search.specs.Answer.{searchFaults}
 use Rattle.text.specs.Reading.{kindOf}
 use Rattle.answer.proofs.DueFrom.{kind-search}
-use Rattle.answer.specs.Due.{Request, Kind, checkFaults, surveyFaults, search, check, survey, gates, kinds, kindAmong, kindIn, requestIn, faultsOf, due}
+use Rattle.answer.specs.Due.{Request, Kind, checkFaults, surveyFaults, searchNumber, search, check, survey, gates, kinds, kindAmong, kindIn, requestIn, faultsOf, due}
 
 -- a kind that no text has: 2 applies
 abbrev pub unknown : ℕ → Kind
@@ -34,9 +36,9 @@ among-holds P done k u = u
 among-holds P (next {kind = kind} {rest = rest} h more) k u = kind-chosen P (eqb k (kind .number)) kind (kindAmong rest k) h (among-holds P more k u)
 
 -- one law for all kinds
-pub kind-holds : (P : Kind → Type 0) → P search → P check → P survey → P gates → ((k : ℕ) → P (unknown k)) → (text : List ℕ) → P (kindIn text)
+pub kind-holds : (P : Kind → Type 0) → ((family : Family) → P (search family)) → P check → P survey → P gates → ((k : ℕ) → P (unknown k)) → (text : List ℕ) → P (kindIn text)
 unfolding kindIn kinds
-kind-holds P s c v g u text = among-holds P (next s (next c (next v (next g done)))) (kindOf text) (u (kindOf text))
+kind-holds P s c v g u text = among-holds P (next (s Hadamard) (next c (next v (next g (next (s Circulant) done))))) (kindOf text) (u (kindOf text))
 
 -- a kind has its number
 number-chosen : (b : Bool) (x y : Kind) (k : ℕ) → eqb k (x .number) ≡ b → y .number ≡ k → cond b x y .number ≡ k
@@ -52,9 +54,9 @@ pub kind-number : (text : List ℕ) → kindIn text .number ≡ kindOf text
 unfolding kindIn
 kind-number text = among-number kinds (kindOf text)
 
-pub kind-is-search : (text : List ℕ) → kindOf text ≡ 1 → kindIn text ≡ search
+pub kind-is-search : (family : Family) (text : List ℕ) → kindOf text ≡ searchNumber family → kindIn text ≡ search family
 unfolding kindIn
-kind-is-search text e = sym (kind-search (kindOf text) e)
+kind-is-search family text e = sym (kind-search (kindOf text) family e)
 
 -- ---- the faults of a text
 
@@ -65,7 +67,7 @@ Ordered kind = (r : Request) → (numbered (kind .faults r) ≡ true) × (ascend
 ordered : (text : List ℕ) → Ordered (kindIn text)
 unfolding search check survey gates searchFaults checkFaults surveyFaults polynomialFaults numbered ascends most
 ordered text =
-    kind-holds Ordered (λ r. (refl, refl, refl)) (λ r. (refl, refl, refl)) (λ r. (refl, refl, refl)) (λ r. (refl, refl, refl)) (λ k r. (refl, refl, refl)) text
+    kind-holds Ordered (λ family r. (refl, refl, refl)) (λ r. (refl, refl, refl)) (λ r. (refl, refl, refl)) (λ r. (refl, refl, refl)) (λ k r. (refl, refl, refl)) text
 
 pub faults-numbered : (text : List ℕ) → numbered (faultsOf text) ≡ true
 unfolding faultsOf numbered
@@ -79,18 +81,18 @@ pub faults-to-nine : (text : List ℕ) → most 9 (faultsOf text) ≡ true
 unfolding faultsOf most
 faults-to-nine text = ordered text (requestIn text) .2
 
--- 9 is a number of kind 1 alone
+-- 9 is a number of the searches alone
 abbrev NineOfSearch : Kind → Type 0
-NineOfSearch kind = (r : Request) → (kind .number ≡ 1) ⊎ (lacks 9 (kind .faults r) ≡ true)
+NineOfSearch kind = (r : Request) → ((family : Family) × (kind .number ≡ searchNumber family)) ⊎ (lacks 9 (kind .faults r) ≡ true)
 
 nine-of-search : (text : List ℕ) → NineOfSearch (kindIn text)
 unfolding search check survey gates checkFaults surveyFaults polynomialFaults lacks
-nine-of-search text = kind-holds NineOfSearch (λ r. inl refl) (λ r. inr refl) (λ r. inr refl) (λ r. inr refl) (λ k r. inr refl) text
+nine-of-search text = kind-holds NineOfSearch (λ family r. inl (family, refl)) (λ r. inr refl) (λ r. inr refl) (λ r. inr refl) (λ k r. inr refl) text
 
-pub nine-is-search : (text : List ℕ) → Applies (faultsOf text) 9 → kindOf text ≡ 1
+pub nine-is-search : (text : List ℕ) → Applies (faultsOf text) 9 → (family : Family) × (kindOf text ≡ searchNumber family)
 unfolding faultsOf lacks
 nine-is-search text a =
-    ⊎-elim (λ (e : kindIn text .number ≡ 1). sym (kind-number text) ∙ e)
+    ⊎-elim (λ (e : (family : Family) × (kindIn text .number ≡ searchNumber family)). (e .0, sym (kind-number text) ∙ e .1))
     (λ (e : lacks 9 (kindIn text .faults (requestIn text)) ≡ true). absurd (lacks-applies 9 (faultsOf text) e a)) (nine-of-search text (requestIn text))
 
 -- ---- what is due

@@ -21,14 +21,17 @@ use Rattle.field.specs.Faults.{polynomialFaults}
 use Rattle.field.proofs.Calls.{modulus-parts, elements-most}
 use Rattle.matrix.specs.Counts.{elementCount, additionCount, rowCount}
 use Rattle.matrix.proofs.Tallies.{elementCount-le}
+use Rattle.search.specs.declared.Family.{Family}
+use Rattle.search.specs.declared.Family.the-variants.{Hadamard, Circulant}
 use Rattle.search.specs.Lightest.{Best, nothing, found}
-use Rattle.search.specs.Shape.{isGood, hadamardShape}
-use Rattle.search.specs.Answer.{sumOf, lightestRow, isWrongSearchOrder, isWrongSearchCount, someTooLarge, someBad, isNone, searchFaults, RowFound, noRow, rowFound, searchAnswer, keyOf, saysOutcome}
+use Rattle.search.specs.Shape.{isGood, shapeOf}
+use Rattle.search.specs.Answer.{sumOf, lightestRow, isWrongOrderFor, isWrongCountFor, someTooLarge, someBad, isNone, searchFaults, RowFound, noRow, rowFound, searchAnswer, keyOf, saysOutcome}
 use Rattle.search.proofs.Demands.{NoZero}
 use Rattle.search.proofs.LetterCounts.{member-nonzero}
 use Rattle.search.proofs.Rows.{mem-rows, sorted-rows, getD-mem}
 use Rattle.search.proofs.Lightest.{row-sorted}
-use Rattle.search.proofs.Refusals.{order-of, count-four, count-eight}
+use Rattle.search.proofs.Families.{family-most, family-least, family-order}
+use Rattle.search.proofs.Refusals.{order-of, count-four, count-eight, circulant-count-other}
 use Rattle.text.specs.Text.{SixDigits}
 use Rattle.text.proofs.Form.{six-none, six-more}
 use Rattle.text.specs.Reading.{valueAt, valuesFrom}
@@ -53,58 +56,59 @@ values-stored s i l v h e d =
     stored-more 0 256 i (valuesFrom s 0 i) (valuesFrom s 0 (i + 1)) l v h (length-valuesFrom s 0 i) next e
 
 -- of more than 255 values none is looked at: the order or the count is wrong
-abbrev manyFaults : ℕ → List Fault
-manyFaults n = fault 5 (isWrongSearchOrder n) ∷ fault 6 true ∷ []
+abbrev manyFaults : Family → ℕ → List Fault
+manyFaults family n = fault 5 (isWrongOrderFor family n) ∷ fault 6 true ∷ []
 
-many-wrong : (n count : ℕ) → isWrongSearchOrder n ≡ false → 255 < count → isWrongSearchCount n count ≡ true
-many-wrong n count e h =
+many-wrong : (family : Family) (n count : ℕ) → isWrongOrderFor family n ≡ false → 255 < count → isWrongCountFor family n count ≡ true
+many-wrong Hadamard n count e h =
     let some : count ≡ 0 → ⊥ = λ z. omega arith in
     ⊎-elim (λ (q : n ≡ 4). sym (count-four n count some q) ∙ lt-ltb 255 count h)
     (λ (q : n ≡ 8). sym (count-eight n count some q) ∙ lt-ltb 16 count (omega arith)) (order-of n e)
+many-wrong Circulant n count e h = sym (circulant-count-other count (λ z. omega arith)) ∙ lt-ltb 8 count (omega arith)
 
-many : ℕ → ℕ → ℕ
-many p n = firstNumber (polynomialFaults p ++ manyFaults n)
+many : Family → ℕ → ℕ → ℕ
+many family p n = firstNumber (polynomialFaults p ++ manyFaults family n)
 
-many-first : (p n : ℕ) (values : List ℕ) → 255 < length values → firstNumber (searchFaults p n values (lightestRow hadamardShape p n values)) ≡ many p n
+many-first : (family : Family) (p n : ℕ) (values : List ℕ) → 255 < length values → firstNumber (searchFaults family p n values (lightestRow (shapeOf family) p n values)) ≡ many family p n
 unfolding searchFaults polynomialFaults firstNumber many
-many-first p n values h =
-    let behind = fault 7 (someTooLarge p values) ∷ fault 8 (someBad values) ∷ fault 9 (isNone (lightestRow hadamardShape p n values)) ∷ [] in
-    first-behind (polynomialFaults p) (fault 5 (isWrongSearchOrder n) ∷ fault 6 (isWrongSearchCount n (length values)) ∷ behind) (manyFaults n)
-    (go (isWrongSearchOrder n) refl (firstNumber behind))
+many-first family p n values h =
+    let behind = fault 7 (someTooLarge p values) ∷ fault 8 (someBad values) ∷ fault 9 (isNone (lightestRow (shapeOf family) p n values)) ∷ [] in
+    first-behind (polynomialFaults p) (fault 5 (isWrongOrderFor family n) ∷ fault 6 (isWrongCountFor family n (length values)) ∷ behind) (manyFaults family n)
+    (go (isWrongOrderFor family n) refl (firstNumber behind))
   where
-    go : (b : Bool) → isWrongSearchOrder n ≡ b → (rest : ℕ) → _≡_ {A = ℕ} (cond b 5 (cond (isWrongSearchCount n (length values)) 6 rest)) (cond b 5 6)
+    go : (b : Bool) → isWrongOrderFor family n ≡ b → (rest : ℕ) → _≡_ {A = ℕ} (cond b 5 (cond (isWrongCountFor family n (length values)) 6 rest)) (cond b 5 6)
     go true e rest = refl
-    go false e rest = ap (λ (x : Bool). cond x 6 rest) (many-wrong n (length values) e h)
+    go false e rest = ap (λ (x : Bool). cond x 6 rest) (many-wrong family n (length values) e h)
 
-many-told : (p n : ℕ) → many p n ≡ 0 → ⊥
+many-told : (family : Family) (p n : ℕ) → many family p n ≡ 0 → ⊥
 unfolding many polynomialFaults numbered firstNumber
-many-told p n e = go (isWrongSearchOrder n) (first-parts (polynomialFaults p) (manyFaults n) refl e .1)
+many-told family p n e = go (isWrongOrderFor family n) (first-parts (polynomialFaults p) (manyFaults family n) refl e .1)
   where
     go : (b : Bool) → _≡_ {A = ℕ} (cond b 5 6) 0 → ⊥
     go true f = omega arith
     go false f = omega arith
 
-many-due : (p n : ℕ) (values : List ℕ) → 255 < length values → answer (many p n) [] ≡ dueTo search (request p n values)
+many-due : (family : Family) (p n : ℕ) (values : List ℕ) → 255 < length values → answer (many family p n) [] ≡ dueTo (search family) (request p n values)
 unfolding dueTo search
-many-due p n values h = after-number [] _ (searchFaults p n values (lightestRow hadamardShape p n values)) (many p n) (many-first p n values h) (many-told p n)
+many-due family p n values h = after-number [] _ (searchFaults family p n values (lightestRow (shapeOf family) p n values)) (many family p n) (many-first family p n values h) (many-told family p n)
 
-pub search-kept : (p n : ℕ) (s : List ℕ) (count : ℕ) → dueTo search (request p n (valuesFrom s 0 (min count 256))) ≡ dueTo search (request p n (valuesFrom s 0 count))
-search-kept p n s count = elim (decLt count 256) [
-  | yes h ↦ ap (λ (k : ℕ). dueTo search (request p n (valuesFrom s 0 k))) (omega arith)
+pub search-kept : (family : Family) (p n : ℕ) (s : List ℕ) (count : ℕ) → dueTo (search family) (request p n (valuesFrom s 0 (min count 256))) ≡ dueTo (search family) (request p n (valuesFrom s 0 count))
+search-kept family p n s count = elim (decLt count 256) [
+  | yes h ↦ ap (λ (k : ℕ). dueTo (search family) (request p n (valuesFrom s 0 k))) (omega arith)
   | no h ↦
-      sym (many-due p n (valuesFrom s 0 (min count 256)) (omega (arith, h, length-valuesFrom s 0 (min count 256))))
-      ∙ many-due p n (valuesFrom s 0 count) (omega (arith, h, length-valuesFrom s 0 count))
+      sym (many-due family p n (valuesFrom s 0 (min count 256)) (omega (arith, h, length-valuesFrom s 0 (min count 256))))
+      ∙ many-due family p n (valuesFrom s 0 count) (omega (arith, h, length-valuesFrom s 0 count))
 ]
 
 -- ---- an accepted search
 
 -- what it has shown
-pub record Accepted (p n : ℕ) (values : List ℕ) : Type 0 where
+pub record Accepted (family : Family) (p n : ℕ) (values : List ℕ) : Type 0 where
   pub modulus : Modulus p
   pub low : 1 ≤ n
   pub high : n ≤ 8
   pub row : List ℕ
-  pub lightest : lightestRow hadamardShape p n values ≡ found row
+  pub lightest : lightestRow (shapeOf family) p n values ≡ found row
   pub entries : length row ≡ n
   pub small : (j : ℕ) → getD row j 0 ≤ 255
   pub nonzero : NoZero n row
@@ -120,27 +124,27 @@ small-entries b (x ∷ row) h zero = h x (List·Memᴰ·head refl)
 small-entries b (x ∷ row) h (suc i) = small-entries b row (λ a m. h a (List·Memᴰ·tail m)) i
 
 -- a row that is found has n entries, each of them a candidate below 2^m
-found-over : (p n : ℕ) (values row : List ℕ) → lightestRow hadamardShape p n values ≡ found row
+found-over : (family : Family) (p n : ℕ) (values row : List ℕ) → lightestRow (shapeOf family) p n values ≡ found row
     → (length row ≡ n) × ((a : ℕ) → List·Memᴰ a row → List·Memᴰ a values × (a < 2 ^ degree p))
 unfolding lightestRow
-found-over p n values row e = mem-rows (2 ^ degree p) values n row .0 (row-sorted (isGood hadamardShape p n) (keyOf p n) (sorted-rows (2 ^ degree p) values n) row e .isRow)
+found-over family p n values row e = mem-rows (2 ^ degree p) values n row .0 (row-sorted (isGood (shapeOf family) p n) (keyOf p n) (sorted-rows (2 ^ degree p) values n) row e .isRow)
 
-pub search-accepted : (p n : ℕ) (values : List ℕ) → firstNumber (searchFaults p n values (lightestRow hadamardShape p n values)) ≡ 0 → Accepted p n values
+pub search-accepted : (family : Family) (p n : ℕ) (values : List ℕ) → firstNumber (searchFaults family p n values (lightestRow (shapeOf family) p n values)) ≡ 0 → Accepted family p n values
 unfolding searchFaults polynomialFaults
-search-accepted p n values e =
+search-accepted family p n values e =
     let (modulus, e₄) = modulus-parts p _ e in
-    let (order, e₅) = first-passed 5 0 (isWrongSearchOrder n) _ (λ h. omega arith) e₄ in
-    let (count, e₆) = first-passed 6 0 (isWrongSearchCount n (length values)) _ (λ h. omega arith) e₅ in
+    let (order, e₅) = first-passed 5 0 (isWrongOrderFor family n) _ (λ h. omega arith) e₄ in
+    let (count, e₆) = first-passed 6 0 (isWrongCountFor family n (length values)) _ (λ h. omega arith) e₅ in
     let (large, e₇) = first-passed 7 0 (someTooLarge p values) _ (λ h. omega arith) e₆ in
     let (bad, e₈) = first-passed 8 0 (someBad values) _ (λ h. omega arith) e₇ in
-    let (none, e₉) = first-passed 9 0 (isNone (lightestRow hadamardShape p n values)) [] (λ h. omega arith) e₈ in
-    let orders = order-of n order in
-    let there = row-there (lightestRow hadamardShape p n values) none in
-    let row = found-over p n values (there .0) (there .1) in
+    let (none, e₉) = first-passed 9 0 (isNone (lightestRow (shapeOf family) p n values)) [] (λ h. omega arith) e₈ in
+    let orders = family-order family n order in
+    let there = row-there (lightestRow (shapeOf family) p n values) none in
+    let row = found-over family p n values (there .0) (there .1) in
     record {
       modulus = modulus;
-      low = ⊎-elim (λ (q : n ≡ 4). omega arith) (λ (q : n ≡ 8). omega arith) orders;
-      high = ⊎-elim (λ (q : n ≡ 4). omega arith) (λ (q : n ≡ 8). omega arith) orders;
+      low = family-least family n orders;
+      high = family-most family n orders;
       row = there .0;
       lightest = there .1;
       entries = row .0;
@@ -150,25 +154,25 @@ search-accepted p n values e =
 
 -- ---- what is due, from what the search says
 
-module _ (p n : ℕ) (values : List ℕ) where
-  says-number : (a : Answer RowFound) → a ≡ searchAnswer p n values → firstNumber (searchFaults p n values (lightestRow hadamardShape p n values)) ≡ a .number
+module _ (family : Family) (p n : ℕ) (values : List ℕ) where
+  says-number : (a : Answer RowFound) → a ≡ searchAnswer family p n values → firstNumber (searchFaults family p n values (lightestRow (shapeOf family) p n values)) ≡ a .number
   unfolding searchAnswer
-  says-number a e = sym (ap (λ (x : Answer RowFound). x .number) e ∙ after-number-is noRow _ (searchFaults p n values (lightestRow hadamardShape p n values)))
+  says-number a e = sym (ap (λ (x : Answer RowFound). x .number) e ∙ after-number-is noRow _ (searchFaults family p n values (lightestRow (shapeOf family) p n values)))
 
-  pub search-refused : (r : Refusal) (row : List ℕ) → saysOutcome (Refused r) row ≡ searchAnswer p n values → answer (numberOf r) [] ≡ dueTo search (request p n values)
+  pub search-refused : (r : Refusal) (row : List ℕ) → saysOutcome (Refused r) row ≡ searchAnswer family p n values → answer (numberOf r) [] ≡ dueTo (search family) (request p n values)
   unfolding dueTo search
-  search-refused r row e = after-number [] _ (searchFaults p n values (lightestRow hadamardShape p n values)) (numberOf r) (says-number _ e) (number-not-zero r)
+  search-refused r row e = after-number [] _ (searchFaults family p n values (lightestRow (shapeOf family) p n values)) (numberOf r) (says-number _ e) (number-not-zero r)
 
-  module _ (sum : ℕ) (row : List ℕ) (e : saysOutcome (Value sum) row ≡ searchAnswer p n values) where
-    pub search-passed : Accepted p n values
-    search-passed = search-accepted p n values (says-number _ e)
+  module _ (sum : ℕ) (row : List ℕ) (e : saysOutcome (Value sum) row ≡ searchAnswer family p n values) where
+    pub search-passed : Accepted family p n values
+    search-passed = search-accepted family p n values (says-number _ e)
 
     -- the row that is told is the lightest, filled up
     told : answer 0 (record { sum = sum; row = row }) ≡ answer 0 (rowFound p n (found (search-passed .row)))
     unfolding searchAnswer
     told =
         e
-        ∙ sym (after-none noRow _ (searchFaults p n values (lightestRow hadamardShape p n values)) (says-number _ e))
+        ∙ sym (after-none noRow _ (searchFaults family p n values (lightestRow (shapeOf family) p n values)) (says-number _ e))
         ∙ ap (λ (b : Best). answer 0 (rowFound p n b)) (search-passed .lightest)
 
     row-told : take n row ≡ search-passed .row
@@ -177,12 +181,12 @@ module _ (p n : ℕ) (values : List ℕ) where
     pub sum-told : sum ≡ sumOf p n (take n row)
     sum-told = ap (λ (x : Answer RowFound). x .value .sum) told ∙ ap (sumOf p n) (sym row-told)
 
-    pub search-told : answer 0 (rowLines p n (take n row)) ≡ dueTo search (request p n values)
+    pub search-told : answer 0 (rowLines p n (take n row)) ≡ dueTo (search family) (request p n values)
     unfolding dueTo search
     search-told =
         ap (λ (l : List ℕ). answer 0 (rowLines p n l)) row-told
         ∙ ap (λ (b : Best). answer 0 (bestLines p n b)) (sym (search-passed .lightest))
-        ∙ after-none [] _ (searchFaults p n values (lightestRow hadamardShape p n values)) (says-number _ e)
+        ∙ after-none [] _ (searchFaults family p n values (lightestRow (shapeOf family) p n values)) (says-number _ e)
 
 -- ---- the lines of a row
 

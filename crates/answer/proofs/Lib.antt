@@ -17,6 +17,6 @@ pub mod SurveyLines
 pub mod Lines
 pub mod RowCounts
 pub mod AsBefore
-pub mod BeforeGates
+pub mod KindsBefore
 pub mod GateTexts
 pub mod FewCandidates

@@ -15,12 +15,14 @@ use Rattle.refusal.proofs.Faults.{fault-here, fault-cases}
 use Rattle.refusal.proofs.Tests.{never-passes, below-exactly, same-exactly, not-exactly, or-exactly}
 use Rattle.field.proofs.Limits.{call-exactly, stated-most}
 use Rattle.matrix.proofs.Limits.{order-exactly}
-use Rattle.search.specs.Stated.{SearchStated}
+use Rattle.search.specs.declared.Family.{Family}
+use Rattle.search.specs.declared.Family.the-variants.{Hadamard, Circulant}
+use Rattle.search.specs.Stated.{StatedFor}
 use Rattle.search.proofs.Limits.{some-too-large-exactly, search-exactly}
 use Rattle.text.specs.Text.{InForm}
 use Rattle.text.specs.Reading.{inForm, kindOf}
 use Rattle.text.proofs.Requests.{in-form-exactly}
-use Rattle.answer.specs.Due.{Request, Kind, checkFaults, surveyFaults, search, check, survey, gates, kinds, kindAmong, kindIn, requestIn, faultsOf}
+use Rattle.answer.specs.Due.{Request, Kind, checkFaults, surveyFaults, searchNumber, search, check, survey, gates, kinds, kindAmong, kindIn, requestIn, faultsOf}
 use Rattle.answer.specs.Limits.{CheckStated, SurveyStated, wrong-degree, order-not-zero, count-not-zero, RequestStated, no-kind, of-search, of-check, of-survey, of-gates, StatedOf, not-in-form, of-request}
 use Rattle.answer.specs.Demands.{WellFormedSearch}
 use Rattle.answer.proofs.DueFrom.{kind-search, kind-check, kind-survey, kind-gates}
@@ -63,32 +65,47 @@ survey-exactly m order values k = (to, from)
 
 -- ---- every kind
 
+-- no search has the number of another kind, nor of another search
+not-search : {kind : ℕ} (family : Family) (m : ℕ) → m ≢ 1 → m ≢ 5 → kind ≡ m → kind ≡ searchNumber family → ⊥
+not-search Hadamard m one five e d = one (omega arith)
+not-search Circulant m one five e d = five (omega arith)
+
+known-search : {kind : ℕ} (family : Family) → kind ≡ searchNumber family → kind ≢ 1 → kind ≢ 5 → ⊥
+known-search Hadamard e one five = one e
+known-search Circulant e one five = five e
+
+same-search : {kind : ℕ} (family other : Family) → kind ≡ searchNumber family → kind ≡ searchNumber other → other ≡ family
+same-search Hadamard Hadamard e d = refl
+same-search Hadamard Circulant e d = let z : ⊥ = omega arith in absurd z
+same-search Circulant Hadamard e d = let z : ⊥ = omega arith in absurd z
+same-search Circulant Circulant e d = refl
+
 -- what is stated of a request is stated by its kind
 module _ {kind polynomial order : ℕ} {values : List ℕ} where
-  stated-search : {k : ℕ} → kind ≡ 1 → RequestStated kind polynomial order values k → SearchStated polynomial order values k
-  stated-search e (no-kind a b c d) = absurd (a e)
-  stated-search e (of-search d s) = s
-  stated-search e (of-check d s) = let z : ⊥ = omega arith in absurd z
-  stated-search e (of-survey d s) = let z : ⊥ = omega arith in absurd z
-  stated-search e (of-gates d s) = let z : ⊥ = omega arith in absurd z
+  stated-search : {k : ℕ} (family : Family) → kind ≡ searchNumber family → RequestStated kind polynomial order values k → StatedFor family polynomial order values k
+  stated-search family e (no-kind a b c d f) = absurd (known-search family e a f)
+  stated-search {k} family e (of-search other d s) = subst (λ (f : Family). StatedFor f polynomial order values k) (same-search family other e d) s
+  stated-search family e (of-check d s) = absurd (not-search family 2 (λ z. omega arith) (λ z. omega arith) d e)
+  stated-search family e (of-survey d s) = absurd (not-search family 3 (λ z. omega arith) (λ z. omega arith) d e)
+  stated-search family e (of-gates d s) = absurd (not-search family 4 (λ z. omega arith) (λ z. omega arith) d e)
 
   stated-check : {k : ℕ} → kind ≡ 2 → RequestStated kind polynomial order values k → CheckStated polynomial order values k
-  stated-check e (no-kind a b c d) = absurd (b e)
-  stated-check e (of-search d s) = let z : ⊥ = omega arith in absurd z
+  stated-check e (no-kind a b c d f) = absurd (b e)
+  stated-check e (of-search family d s) = absurd (not-search family 2 (λ z. omega arith) (λ z. omega arith) e d)
   stated-check e (of-check d s) = s
   stated-check e (of-survey d s) = let z : ⊥ = omega arith in absurd z
   stated-check e (of-gates d s) = let z : ⊥ = omega arith in absurd z
 
   stated-survey : {k : ℕ} → kind ≡ 3 → RequestStated kind polynomial order values k → SurveyStated polynomial order values k
-  stated-survey e (no-kind a b c d) = absurd (c e)
-  stated-survey e (of-search d s) = let z : ⊥ = omega arith in absurd z
+  stated-survey e (no-kind a b c d f) = absurd (c e)
+  stated-survey e (of-search family d s) = absurd (not-search family 3 (λ z. omega arith) (λ z. omega arith) e d)
   stated-survey e (of-check d s) = let z : ⊥ = omega arith in absurd z
   stated-survey e (of-survey d s) = s
   stated-survey e (of-gates d s) = let z : ⊥ = omega arith in absurd z
 
   stated-gates : {k : ℕ} → kind ≡ 4 → RequestStated kind polynomial order values k → CheckStated polynomial order values k
-  stated-gates e (no-kind a b c d) = absurd (d e)
-  stated-gates e (of-search d s) = let z : ⊥ = omega arith in absurd z
+  stated-gates e (no-kind a b c d f) = absurd (d e)
+  stated-gates e (of-search family d s) = absurd (not-search family 4 (λ z. omega arith) (λ z. omega arith) e d)
   stated-gates e (of-check d s) = let z : ⊥ = omega arith in absurd z
   stated-gates e (of-survey d s) = let z : ⊥ = omega arith in absurd z
   stated-gates e (of-gates d s) = s
@@ -98,11 +115,11 @@ module _ (number : ℕ) (r : Request) (k : ℕ) where
   abbrev Limited : Kind → Type 0
   Limited kind = Applies (kind .faults r) k ↔ RequestStated number (r .polynomial) (r .order) (r .values) k
 
-  search-limited : k ≤ 8 → number ≡ 1 → Limited search
+  search-limited : (family : Family) → k ≤ 8 → number ≡ searchNumber family → Limited (search family)
   unfolding search
-  search-limited l e =
-      let exactly = search-exactly (r .polynomial) (r .order) (r .values) _ k l in
-      (λ m. of-search e (exactly .0 m), λ s. exactly .1 (stated-search e s))
+  search-limited family l e =
+      let exactly = search-exactly family (r .polynomial) (r .order) (r .values) _ k l in
+      (λ m. of-search family e (exactly .0 m), λ s. exactly .1 (stated-search family e s))
 
   check-limited : number ≡ 2 → Limited check
   unfolding check
@@ -122,31 +139,34 @@ module _ (number : ℕ) (r : Request) (k : ℕ) where
       let exactly = check-exactly (r .polynomial) (r .order) (r .values) k in
       (λ m. of-gates e (exactly .0 m), λ s. exactly .1 (stated-gates e s))
 
-  unknown-limited : number ≢ 1 → number ≢ 2 → number ≢ 3 → number ≢ 4 → Limited (unknown number)
+  unknown-limited : number ≢ 1 → number ≢ 2 → number ≢ 3 → number ≢ 4 → number ≢ 5 → Limited (unknown number)
   unfolding Applies
-  unknown-limited a b c d = (fault-cases 2 (λ e t. rw e (no-kind a b c d)) (λ m. absurd (List·Memᴰ·not-nil m)), from)
+  unknown-limited a b c d f = (fault-cases 2 (λ e t. rw e (no-kind a b c d f)) (λ m. absurd (List·Memᴰ·not-nil m)), from)
     where
       from : {k : ℕ} → RequestStated number (r .polynomial) (r .order) (r .values) k → List·Memᴰ (fault k true) (fault 2 true ∷ [])
-      from (no-kind e f g i) = fault-here 2 refl
-      from (of-search e s) = absurd (a e)
+      from (no-kind e g i j l) = fault-here 2 refl
+      from (of-search family e s) = absurd (known-search family e a f)
       from (of-check e s) = absurd (b e)
       from (of-survey e s) = absurd (c e)
       from (of-gates e s) = absurd (d e)
 
-  kind-other : number ≢ 1 → number ≢ 2 → number ≢ 3 → number ≢ 4 → unknown number ≡ kindAmong kinds number
+  kind-other : number ≢ 1 → number ≢ 2 → number ≢ 3 → number ≢ 4 → number ≢ 5 → unknown number ≡ kindAmong kinds number
   unfolding kinds kindAmong search check survey gates
-  kind-other a b c d = rw (ne-eqb number 1 a, ne-eqb number 2 b, ne-eqb number 3 c, ne-eqb number 4 d) refl
+  kind-other a b c d f = rw (ne-eqb number 1 a, ne-eqb number 2 b, ne-eqb number 3 c, ne-eqb number 4 d, ne-eqb number 5 f) refl
 
   kind-limited : k ≤ 8 → Limited (kindAmong kinds number)
   kind-limited l = elim (ℕ-discrete number 1) [
-    | yes a ↦ subst Limited (kind-search number a) (search-limited l a)
+    | yes a ↦ subst Limited (kind-search number Hadamard a) (search-limited Hadamard l a)
     | no a ↦ elim (ℕ-discrete number 2) [
       | yes b ↦ subst Limited (kind-check number b) (check-limited b)
       | no b ↦ elim (ℕ-discrete number 3) [
         | yes c ↦ subst Limited (kind-survey number c) (survey-limited c)
         | no c ↦ elim (ℕ-discrete number 4) [
           | yes d ↦ subst Limited (kind-gates number d) (gates-limited d)
-          | no d ↦ subst Limited (kind-other a b c d) (unknown-limited a b c d)
+          | no d ↦ elim (ℕ-discrete number 5) [
+            | yes f ↦ subst Limited (kind-search number Circulant f) (search-limited Circulant l f)
+            | no f ↦ subst Limited (kind-other a b c d f) (unknown-limited a b c d f)
+          ]
         ]
       ]
     ]
@@ -175,8 +195,9 @@ survey-most (order-not-zero h) = lit≤ tt
 survey-most (count-not-zero h) = lit≤ tt
 
 request-most : {kind polynomial order : ℕ} {values : List ℕ} {k : ℕ} → RequestStated kind polynomial order values k → k ≤ 8
-request-most (no-kind a b c d) = lit≤ tt
-request-most (of-search e s) = stated-most s
+request-most (no-kind a b c d f) = lit≤ tt
+request-most (of-search Hadamard e s) = stated-most s
+request-most (of-search Circulant e s) = stated-most s
 request-most (of-check e s) = stated-most s
 request-most (of-survey e s) = survey-most s
 request-most (of-gates e s) = stated-most s
@@ -190,8 +211,8 @@ pub stated-applies : {text : List ℕ} {k : ℕ} → StatedOf text k → Applies
 stated-applies {text} {k} s = limits-exactly text k (text-most s) .1 s
 
 -- a search is well formed exactly if it has no fault with a number up to 8
-pub well-formed-exactly : (text : List ℕ) → kindOf text ≡ 1 → WellFormedSearch text ↔ ((k : ℕ) → Applies (faultsOf text) k → k ≤ 8 → ⊥)
-well-formed-exactly text e = (
+pub well-formed-exactly : (family : Family) (text : List ℕ) → kindOf text ≡ searchNumber family → WellFormedSearch family text ↔ ((k : ℕ) → Applies (faultsOf text) k → k ≤ 8 → ⊥)
+well-formed-exactly family text e = (
   λ w k a l. w .faultless k (limits-exactly text k l .0 a),
-  λ h. record { kind-one = e; faultless = λ k s. h k (stated-applies s) (text-most s) },
+  λ h. record { kind-is = e; faultless = λ k s. h k (stated-applies s) (text-most s) },
 )

@@ -11,14 +11,15 @@ use lib.Dec.{leb, lit≤}
 use Prim.Native.String.{String}
 use lib.ListN.{length}
 use borrow.Author.Tests.{leb-true}
-use Rattle.algebra.specs.Matrix.{tabulate, upTo, before, words, sum, apply, skip, without, det, weight, activity, leastActivity, branchNumber, isMds, sameWords, givesBack, isInvolution}
+use Rattle.algebra.specs.Matrix.{tabulate, upTo, before, words, sum, apply, skip, without, circulant, det, weight, activity, leastActivity, branchNumber, isMds, sameWords, givesBack, isInvolution}
 use Rattle.algebra.proofs.Involution.{and-left, and-right}
-use Rattle.refusal.specs.Refusals.{firstNumber, Answer, answer, unlessRefused, answerAfter}
+use Rattle.refusal.specs.Refusals.{fault, firstNumber, Answer, answer, unlessRefused, answerAfter}
 use Rattle.refusal.proofs.Faults.{after-left, after-number-is}
 use lib.Count.{ones, onesIn}
-use Rattle.field.specs.Polynomial.{_⊕_, _⊗_, digitsWithin, overDigits, degree, reduce, rem, product, onesInColumns, xorCount, someBelow, Irreducible, isIrreducible, firstBelow}
+use Rattle.field.specs.Polynomial.{_⊕_, _⊗_, digitsWithin, overDigits, degree, reduce, rem, product, onesInColumns, xorCount, someBelow, Irreducible, isIrreducible, Modulus, firstBelow}
 use Rattle.field.specs.Doubling.{xtime, doubled, sumAfter}
 use Rattle.field.proofs.Irreducibility.{irreducible-to}
+use Rattle.field.proofs.Calls.{modulus-passed}
 use Rattle.field.specs.Table.{polynomials, passing}
 use Rattle.field.specs.Faults.{isOutside, isTooLarge, polynomialFaults, inverseFaults}
 use Rattle.matrix.specs.Numbers.{elements}
@@ -28,18 +29,21 @@ use Rattle.matrix.specs.Depths.{bit, onesInLine, outputOnes, depthOf, greatest,
 use Rattle.gates.specs.Gates.{isInput, inputsOf, outputs, joining, gatesOf, carrierOf, gatesFrom, carriersFrom, gatesOfMatrix, carriersOfMatrix}
 use Rattle.gates.specs.Wires.{wires, carriedBit, evaluate}
 use Rattle.search.specs.Lightest.{member, Best, nothing, found}
-use Rattle.search.specs.Shape.{hadamardShape}
-use Rattle.search.specs.Answer.{isWrongSearchOrder, isWrongSearchCount, someTooLarge, someRepeated, someBad, sumOf, depthOfRow, lightestRow, searchFaults}
-use Rattle.search.proofs.Executable.{over-nineteen, by-depth-rows}
+use Rattle.search.specs.declared.Family.{Family}
+use Rattle.search.specs.declared.Family.the-variants.{Hadamard, Circulant}
+use Rattle.search.specs.Shape.{shapeOf}
+use Rattle.search.specs.Answer.{isWrongSearchOrder, isWrongSearchCount, isWrongCirculantOrder, isWrongCirculantCount, someTooLarge, someRepeated, someBad, sumOf, depthOfRow, lightestRow, searchFaults, isWrongOrderFor, isWrongCountFor, isNone}
+use Rattle.search.proofs.Executable.{two-eighty-three, over-nineteen, by-depth-rows, around-rows}
 use Rattle.search.proofs.Rows.{not-passed}
 use Rattle.text.specs.Reading.{inForm}
 use Rattle.text.specs.Text.{columnByte, column, columns, lineText, lineEnd, valueText, requestText, answerText, SixDigits}
 use Rattle.text.proofs.Lengths.{length-request}
 use Rattle.text.proofs.Form.{six-none, six-more}
 use Rattle.text.proofs.Requests.{ReadAs, written-read}
-use Rattle.answer.specs.Due.{request, rowLines, bestLines, search, checkFaults, entriesOf, checkLines, check, surveyFaults, surveyLine, surveyLines, survey, gateLines, gates, kinds, kindAmong, dueTo, kindIn, requestIn, faultsOf, due}
+use Rattle.answer.specs.Due.{Kind, request, searchNumber, rowLines, bestLines, search, checkFaults, entriesOf, checkLines, check, surveyFaults, surveyLine, surveyLines, survey, gateLines, gates, kinds, kindAmong, dueTo, kindIn, requestIn, faultsOf, due}
 use Rattle.answer.specs.Answered.{textOf}
-use Rattle.answer.specs.Reference.{ReferenceLine, texts, power, ReferenceSays, AllReferenceSay, all-none, _and_, elementLines, productSteps, searches, depthLines, checks, surveys, surveyTexts, gateLists, gateTexts, refusals, from-one, limits, bytesOf, example, referenceLines}
+use Rattle.answer.proofs.DueFrom.{kind-search}
+use Rattle.answer.specs.Reference.{ReferenceLine, texts, power, ReferenceSays, AllReferenceSay, all-none, _and_, elementLines, productSteps, searches, depthLines, checks, surveys, surveyTexts, gateLists, gateTexts, circulantLines, circulantTexts, refusals, from-one, limits, bytesOf, example, referenceLines}
 
 -- ---- from the numbers of a request to its text
 
@@ -77,10 +81,20 @@ due-request k p o vs e =
 -- ---- searches
 
 -- what is due where this row, or none, is the lightest
-search-due : (p n : ℕ) (candidates : List ℕ) (best : Best) → lightestRow hadamardShape p n candidates ≡ best
-    → dueTo (kindAmong kinds 1) (request p n candidates) ≡ unlessRefused [] (firstNumber (searchFaults p n candidates best)) (bestLines p n best)
-unfolding dueTo kinds kindAmong search answerAfter
-search-due p n candidates best e = rw e
+search-due : (family : Family) (p n : ℕ) (candidates : List ℕ) (best : Best) → lightestRow (shapeOf family) p n candidates ≡ best
+    → dueTo (kindAmong kinds (searchNumber family)) (request p n candidates) ≡ unlessRefused [] (firstNumber (searchFaults family p n candidates best)) (bestLines p n best)
+unfolding dueTo kinds kindAmong search check survey gates answerAfter
+search-due Hadamard p n candidates best e = rw e
+search-due Circulant p n candidates best e = rw e
+
+-- the same over a polynomial that is known to pass, which is not tested
+passed-due : (family : Family) (p n : ℕ) (candidates : List ℕ) (best : Best) → Modulus p → lightestRow (shapeOf family) p n candidates ≡ best
+    → dueTo (kindAmong kinds (searchNumber family)) (request p n candidates)
+    ≡ answerAfter [] (fault 5 (isWrongOrderFor family n) ∷ fault 6 (isWrongCountFor family n (length candidates)) ∷ fault 7 (someTooLarge p candidates) ∷ fault 8 (someBad candidates) ∷ fault 9 (isNone best) ∷ []) (bestLines p n best)
+unfolding dueTo search searchFaults polynomialFaults
+passed-due family p n candidates best h e =
+    ap (λ (k : Kind). dueTo k (request p n candidates)) (sym (kind-search (searchNumber family) family refl))
+    ∙ (rw e (sym (modulus-passed [] (bestLines p n best) p _ h)))
 
 -- ---- the table
 
@@ -108,13 +122,13 @@ searches-hold : AllReferenceSay searches
 unfolding ReferenceSays searches fits allSix isOutside isIrreducible someBelow searchFaults polynomialFaults firstNumber isWrongSearchOrder isWrongSearchCount someTooLarge isTooLarge someBad someRepeated member sumOf rowLines rowCount elementCount additionCount total weight tabulate xorCount onesInColumns ones onesIn product rem reduce degree overDigits digitsWithin _⊗_ _⊕_
 searches-hold =
     let (powers, three, few, four, fifteen) = over-nineteen in
-    (due-request 1 19 4 _ refl ∙ search-due 19 4 _ _ powers)
+    (due-request 1 19 4 _ refl ∙ search-due Hadamard 19 4 _ _ powers)
     and refl
     and refl
     and refl
-    and (due-request 1 19 4 _ refl ∙ search-due 19 4 _ _ three)
-    and (due-request 1 19 4 _ refl ∙ search-due 19 4 _ _ few)
-    and (due-request 1 19 4 _ refl ∙ search-due 19 4 _ _ fifteen)
+    and (due-request 1 19 4 _ refl ∙ search-due Hadamard 19 4 _ _ three)
+    and (due-request 1 19 4 _ refl ∙ search-due Hadamard 19 4 _ _ few)
+    and (due-request 1 19 4 _ refl ∙ search-due Hadamard 19 4 _ _ fifteen)
     and all-none
 
 depths-hold : AllReferenceSay depthLines
@@ -128,18 +142,18 @@ depths-hold =
     and refl
     and refl
     and refl
-    and (due-request 1 31 4 _ refl ∙ search-due 31 4 _ _ fifteen)
-    and (due-request 1 31 4 _ refl ∙ search-due 31 4 _ _ eleven)
+    and (due-request 1 31 4 _ refl ∙ search-due Hadamard 31 4 _ _ fifteen)
+    and (due-request 1 31 4 _ refl ∙ search-due Hadamard 31 4 _ _ eleven)
     and refl
     and refl
-    and (due-request 1 67 4 _ refl ∙ search-due 67 4 _ _ six)
+    and (due-request 1 67 4 _ refl ∙ search-due Hadamard 67 4 _ _ six)
     and all-none
 
 example-holds : AllReferenceSay example
 unfolding ReferenceSays example fits allSix isOutside isIrreducible someBelow searchFaults polynomialFaults firstNumber isWrongSearchOrder isWrongSearchCount someTooLarge isTooLarge someBad someRepeated member sumOf rowLines rowCount elementCount additionCount total weight tabulate xorCount onesInColumns ones onesIn product rem reduce degree overDigits digitsWithin _⊗_ _⊕_ requestText answerText lineText columns column columnByte valueText lineEnd bytesOf
 example-holds =
-    let worked = due-request 1 19 4 (1 ∷ 4 ∷ 9 ∷ 13 ∷ []) refl ∙ search-due 19 4 _ _ (over-nineteen .3) in
-    let seventeen = due-request 1 19 8 (from-one 17) refl ∙ search-due 19 8 _ _ refl in
+    let worked = due-request 1 19 4 (1 ∷ 4 ∷ 9 ∷ 13 ∷ []) refl ∙ search-due Hadamard 19 4 _ _ (over-nineteen .3) in
+    let seventeen = due-request 1 19 8 (from-one 17) refl ∙ search-due Hadamard 19 8 _ _ refl in
     worked and and-texts _ worked refl (and-texts _ seventeen refl all-none)
 
 checks-hold : AllReferenceSay checks
@@ -174,7 +188,7 @@ gate-lists-hold =
     and due-request 4 7 9 _ refl
     and due-request 4 7 2 _ refl
     and due-request 4 7 1 _ refl
-    and due-request 5 7 1 _ refl
+    and due-request 9 7 1 _ refl
     and all-none
 
 gate-texts-hold : AllReferenceSay gateTexts
@@ -194,18 +208,59 @@ unfolding dueTo kinds kindAmong search check answerAfter firstNumber checkFaults
 with-factors p n values inside a b l m e =
     let reducible = not-passed (isIrreducible p) (λ t. unfold Irreducible in irreducible-to p t a b l m e) in rw (inside, reducible) refl
 
--- sixteen candidates at order 8, whatever row is the lightest
-sixteen : (best : Best) → firstNumber (searchFaults 37 8 (from-one 16) best) ≢ 6
+-- a search that is not refused with 6, whatever row is the lightest
+not-six : (family : Family) (p n : ℕ) (candidates : List ℕ) → fits (searchNumber family) p n candidates ≡ true
+    → ((best : Best) → firstNumber (searchFaults family p n candidates best) ≢ 6) → due (requestText (searchNumber family) p n candidates) .number ≢ 6
+unfolding search dueTo
+not-six family p n candidates fit passes e =
+    let best = lightestRow (shapeOf family) p n candidates in
+    passes best
+    (sym (after-number-is {A = List (List ℕ)} [] (bestLines p n best) (searchFaults family p n candidates best))
+    ∙ ap (λ (k : Kind). dueTo k (request p n candidates) .number) (kind-search (searchNumber family) family refl)
+    ∙ sym (ap (λ (d : Answer (List (List ℕ))). d .number) (due-request (searchNumber family) p n candidates fit)) ∙ e)
+
+-- sixteen candidates at order 8; eight of a circulant search
+sixteen : (best : Best) → firstNumber (searchFaults Hadamard 37 8 (from-one 16) best) ≢ 6
 unfolding firstNumber searchFaults polynomialFaults isOutside isIrreducible someBelow isWrongSearchOrder isWrongSearchCount someTooLarge isTooLarge someBad someRepeated member degree overDigits digitsWithin _⊗_ _⊕_ tabulate
 sixteen nothing e = omega arith
 sixteen (found row) e = omega arith
 
-not-six : due (requestText 1 37 8 (from-one 16)) .number ≢ 6
-unfolding fits allSix tabulate dueTo kinds kindAmong search
-not-six e =
-    sixteen (lightestRow hadamardShape 37 8 (from-one 16))
-    (sym (after-number-is {A = List (List ℕ)} [] (bestLines 37 8 (lightestRow hadamardShape 37 8 (from-one 16))) (searchFaults 37 8 (from-one 16) (lightestRow hadamardShape 37 8 (from-one 16))))
-    ∙ sym (ap (λ (d : Answer (List (List ℕ))). d .number) (due-request 1 37 8 (from-one 16) refl)) ∙ e)
+eight : (best : Best) → firstNumber (searchFaults Circulant 19 8 (from-one 8) best) ≢ 6
+unfolding firstNumber searchFaults polynomialFaults isOutside isIrreducible someBelow isWrongCirculantOrder isWrongCirculantCount someTooLarge isTooLarge someBad someRepeated member degree overDigits digitsWithin _⊗_ _⊕_ tabulate
+eight nothing e = omega arith
+eight (found row) e = omega arith
+
+-- circulant searches
+four-worked : due (requestText 5 283 4 (1 ∷ 2 ∷ 3 ∷ [])) ≡ answer 0 ((0 ∷ 14 ∷ 38 ∷ 152 ∷ []) ∷ (1 ∷ 1 ∷ 2 ∷ 3 ∷ []) ∷ [])
+unfolding fits allSix answerAfter firstNumber isWrongCirculantOrder isWrongCirculantCount someTooLarge isTooLarge someBad someRepeated member sumOf rowLines rowCount elementCount additionCount total weight tabulate xorCount onesInColumns ones onesIn product rem reduce degree overDigits digitsWithin _⊗_ _⊕_
+four-worked =
+    due-request 5 283 4 (1 ∷ 2 ∷ 3 ∷ []) refl ∙ passed-due Circulant 283 4 (1 ∷ 2 ∷ 3 ∷ []) (found (1 ∷ 1 ∷ 2 ∷ 3 ∷ [])) two-eighty-three (around-rows .2)
+
+circulants-hold : AllReferenceSay circulantLines
+unfolding ReferenceSays circulantLines circulant fits allSix dueTo kinds kindAmong search check survey gates answerAfter isWrongCirculantOrder isWrongCirculantCount isOutside isIrreducible someBelow searchFaults polynomialFaults firstNumber someTooLarge isTooLarge someBad someRepeated member sumOf rowLines rowCount elementCount additionCount total weight tabulate xorCount onesInColumns ones onesIn product rem reduce degree overDigits digitsWithin _⊗_ _⊕_ checkFaults isWrongOrder checkLines checkOf entriesOf matrixCount branchNumber leastActivity activity words before upTo elements apply sum isMds isInvolution givesBack sameWords
+circulants-hold =
+    let (two, three, four, none) = around-rows in
+    refl
+    and (due-request 5 7 2 _ refl ∙ search-due Circulant 7 2 _ _ two)
+    and due-request 2 7 2 _ refl
+    and (due-request 5 19 3 _ refl ∙ search-due Circulant 19 3 _ _ three)
+    and four-worked
+    and (due-request 5 7 2 _ refl ∙ search-due Circulant 7 2 _ _ none)
+    and due-request 5 3 2 _ refl
+    and due-request 5 5 2 _ refl
+    and due-request 5 7 1 _ refl
+    and due-request 5 7 9 _ refl
+    and due-request 5 7 2 _ refl
+    and due-request 5 19 2 _ refl
+    and not-six Circulant 19 8 (from-one 8) refl eight
+    and due-request 5 7 2 _ refl
+    and due-request 5 7 2 _ refl
+    and due-request 5 7 2 _ refl
+    and all-none
+
+circulant-texts-hold : AllReferenceSay circulantTexts
+unfolding ReferenceSays circulantTexts fits requestText answerText lineText columns column columnByte valueText lineEnd bytesOf tabulate
+circulant-texts-hold = and-texts _ four-worked refl all-none
 
 -- the limits
 limits-hold : AllReferenceSay limits
@@ -215,7 +270,7 @@ limits-hold =
     and (due-request 2 21 1 (0 ∷ []) refl ∙ with-factors 21 1 (0 ∷ []) refl 7 7 (lit≤ tt) (lit≤ tt) refl)
     and (due-request 2 511 1 (0 ∷ []) refl ∙ with-factors 511 1 (0 ∷ []) refl 7 73 (lit≤ tt) (lit≤ tt) refl)
     and due-request 2 512 1 _ refl
-    and not-six
+    and not-six Hadamard 37 8 (from-one 16) refl sixteen
     and due-request 1 37 8 _ refl
     and due-request 1 37 4 _ refl
     and all-none
@@ -227,7 +282,11 @@ lines-hold =
     all-append
     (all-append
     (all-append
+    (all-append
+    (all-append
     (all-append (all-append (all-append (all-append (all-append (all-append (all-append (all-append elements-hold product-steps-hold) searches-hold) depths-hold) checks-hold) surveys-hold) survey-texts-hold) gate-lists-hold) gate-texts-hold)
+    circulants-hold)
+    circulant-texts-hold)
     refusals-hold)
     limits-hold)
     example-holds

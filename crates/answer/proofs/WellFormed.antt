@@ -11,34 +11,35 @@ use Rattle.refusal.proofs.Faults.{absent, first-left, first-empty, after-left}
 use Rattle.field.specs.Polynomial.{Modulus, degree, isIrreducible}
 use Rattle.field.specs.Faults.{isOutside, polynomialFaults}
 use Rattle.field.proofs.Calls.{number-modulus, not-too-large}
+use Rattle.search.specs.declared.Family.{Family}
 use Rattle.search.specs.Lightest.{Best}
-use Rattle.search.specs.Shape.{hadamardShape}
-use Rattle.search.specs.Answer.{isWrongSearchOrder, isWrongSearchCount, someTooLarge, someBad, isNone, lightestRow, searchFaults}
-use Rattle.search.specs.Steps.Hadamard.{SearchOrder}
+use Rattle.search.specs.Shape.{shapeOf}
+use Rattle.search.specs.Answer.{isWrongOrderFor, isWrongCountFor, someTooLarge, someBad, isNone, lightestRow, searchFaults}
+use Rattle.search.specs.Steps.Families.{OrderOf}
 use Rattle.search.proofs.LetterCounts.{member-fits}
-use Rattle.search.proofs.Refusals.{order-of}
+use Rattle.search.proofs.Families.{family-order}
 use Rattle.text.specs.Reading.{inForm, kindOf, polynomialOf, orderOf, valuesOf}
-use Rattle.answer.specs.Due.{bestLines, search, requestIn, faultsOf, due}
+use Rattle.answer.specs.Due.{searchNumber, bestLines, search, requestIn, faultsOf, due}
 use Rattle.answer.specs.Demands.{WellFormedSearch}
 use Rattle.answer.proofs.EveryKind.{kind-is-search}
 use Rattle.answer.proofs.Limits.{well-formed-exactly}
 
 -- the lightest row over the candidates of a search, and its faults
-abbrev pub best : List ℕ → Best
-best text = lightestRow hadamardShape (polynomialOf text) (orderOf text) (valuesOf text)
+abbrev pub best : Family → List ℕ → Best
+best family text = lightestRow (shapeOf family) (polynomialOf text) (orderOf text) (valuesOf text)
 
-search-faults : (text : List ℕ) → kindOf text ≡ 1
-    → faultsOf text ≡ fault 1 (not (inForm text)) ∷ searchFaults (polynomialOf text) (orderOf text) (valuesOf text) (best text)
+search-faults : (family : Family) (text : List ℕ) → kindOf text ≡ searchNumber family
+    → faultsOf text ≡ fault 1 (not (inForm text)) ∷ searchFaults family (polynomialOf text) (orderOf text) (valuesOf text) (best family text)
 unfolding faultsOf requestIn search
-search-faults text e = rw (kind-is-search text e) refl
+search-faults family text e = rw (kind-is-search family text e) refl
 
 -- a polynomial with a field, an order of a search, and candidates that are elements
-pub record Passed (p n : ℕ) (values : List ℕ) : Type 0 where
+pub record Passed (family : Family) (p n : ℕ) (values : List ℕ) : Type 0 where
   pub modulus : Modulus p
-  pub order : SearchOrder n
+  pub order : OrderOf family n
   pub fits : (a : ℕ) → List·Memᴰ a values → a < 2 ^ degree p
 
-module _ (text : List ℕ) (w : WellFormedSearch text) where
+module _ (family : Family) (text : List ℕ) (w : WellFormedSearch family text) where
   abbrev p : ℕ
   p = polynomialOf text
 
@@ -49,8 +50,8 @@ module _ (text : List ℕ) (w : WellFormedSearch text) where
   v = valuesOf text
 
   -- a fault of the list with a number up to 8 is not there
-  not-there : (k : ℕ) (b : Bool) → k ≤ 8 → List·Memᴰ (fault k b) (fault 1 (not (inForm text)) ∷ searchFaults p n v (best text)) → b ≡ false
-  not-there k b l m = absent (faultsOf text) k b (rw (search-faults text (w .kind-one)) m) (λ a. well-formed-exactly text (w .kind-one) .0 w k a l)
+  not-there : (k : ℕ) (b : Bool) → k ≤ 8 → List·Memᴰ (fault k b) (fault 1 (not (inForm text)) ∷ searchFaults family p n v (best family text)) → b ≡ false
+  not-there k b l m = absent (faultsOf text) k b (rw (search-faults family text (w .kind-is)) m) (λ a. well-formed-exactly family text (w .kind-is) .0 w k a l)
 
   is-form : not (inForm text) ≡ false
   is-form = not-there 1 _ (lit≤ tt) (List·Memᴰ·head refl)
@@ -63,11 +64,11 @@ module _ (text : List ℕ) (w : WellFormedSearch text) where
   unfolding searchFaults polynomialFaults
   not-reducible = not-there 4 _ (lit≤ tt) (List·Memᴰ·tail (List·Memᴰ·tail (List·Memᴰ·head refl)))
 
-  right-order : isWrongSearchOrder n ≡ false
+  right-order : isWrongOrderFor family n ≡ false
   unfolding searchFaults polynomialFaults
   right-order = not-there 5 _ (lit≤ tt) (List·Memᴰ·tail (List·Memᴰ·tail (List·Memᴰ·tail (List·Memᴰ·head refl))))
 
-  right-count : isWrongSearchCount n (length v) ≡ false
+  right-count : isWrongCountFor family n (length v) ≡ false
   unfolding searchFaults polynomialFaults
   right-count = not-there 6 _ (lit≤ tt) (List·Memᴰ·tail (List·Memᴰ·tail (List·Memᴰ·tail (List·Memᴰ·tail (List·Memᴰ·head refl)))))
 
@@ -81,10 +82,10 @@ module _ (text : List ℕ) (w : WellFormedSearch text) where
       not-there 8 _ (lit≤ tt) (List·Memᴰ·tail (List·Memᴰ·tail (List·Memᴰ·tail (List·Memᴰ·tail (List·Memᴰ·tail (List·Memᴰ·tail (List·Memᴰ·head refl)))))))
 
   -- only 9 is left
-  pub only-nine : due text ≡ answerAfter [] (fault 9 (isNone (best text)) ∷ []) (bestLines p n (best text))
+  pub only-nine : due text ≡ answerAfter [] (fault 9 (isNone (best family text)) ∷ []) (bestLines p n (best family text))
   unfolding due requestIn search searchFaults polynomialFaults
   only-nine =
-      rw (search-faults text (w .kind-one), kind-is-search text (w .kind-one))
+      rw (search-faults family text (w .kind-is), kind-is-search family text (w .kind-is))
       (sym (after-left [] _ 8 _ _ not-bad
       ∙ after-left [] _ 7 _ _ not-large
       ∙ after-left [] _ 6 _ _ right-count
@@ -93,11 +94,11 @@ module _ (text : List ℕ) (w : WellFormedSearch text) where
       ∙ after-left [] _ 3 _ _ not-outside
       ∙ after-left [] _ 1 _ _ is-form))
 
-  pub passed : Passed p n v
+  pub passed : Passed family p n v
   unfolding polynomialFaults
   passed =
       record {
         modulus = number-modulus p (first-left 3 (isOutside p) _ not-outside ∙ first-left 4 (not (isIrreducible p)) _ not-reducible ∙ first-empty);
-        order = order-of n right-order;
+        order = family-order family n right-order;
         fits = λ a m. not-too-large p a (member-fits p v not-large a m);
       }

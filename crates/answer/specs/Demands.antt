@@ -1,4 +1,4 @@
--- Demands 1 and 3 of request texts, and what requests Two and Three promise of them, in the customer's words. Assumes nothing.
+-- Demands 1 and 3 of request texts, and what requests Two, Three and Six promise of them, in the customer's words. Assumes nothing.
 use mathlib.Core.Path.{_≡_}
 use mathlib.Core.Logic.{_↔_, _⊎_}
 use mathlib.Core.List.{List, [], _∷_, _++_, map, List·Memᴰ}
@@ -8,10 +8,11 @@ use Rattle.refusal.specs.Refusals.{Answer, answer}
 use Rattle.field.specs.Polynomial.{Irreducible, degree}
 use Rattle.matrix.specs.Counts.{matrixCount}
 use Rattle.gates.specs.Netlist.{Netlist}
-use Rattle.search.specs.Demands.{Both, Demanded}
+use Rattle.search.specs.declared.Family.{Family}
+use Rattle.search.specs.Demands.{Asks, Demanded}
 use Rattle.text.specs.Text.{lineText, answerText}
 use Rattle.text.specs.Reading.{kindOf, polynomialOf, orderOf, valuesOf}
-use Rattle.answer.specs.Due.{rowLines, entriesOf, surveyLine, gateLines, due}
+use Rattle.answer.specs.Due.{searchNumber, rowLines, entriesOf, surveyLine, gateLines, due}
 use Rattle.answer.specs.Limits.{StatedOf}
 use Rattle.answer.specs.Answered.{writtenAt}
 
@@ -55,73 +56,73 @@ pub record AnySpace (space space′ after after′ : List ℕ) (number number′
 
 -- ---- demand 3
 
--- a well-formed search: kind 1, and none of the numbers 1 to 8 applies
-pub record WellFormedSearch (text : List ℕ) : Type 0 where
-  pub kind-one : kindOf text ≡ 1
+-- a well-formed search for matrices of a family: its kind (1 or 5), and none of the numbers 1 to 8 applies
+pub record WellFormedSearch (family : Family) (text : List ℕ) : Type 0 where
+  pub kind-is : kindOf text ≡ searchNumber family
   pub faultless : (k : ℕ) → StatedOf text k → ⊥
 
--- no row over the candidates has both properties
-unfoldable pub NoRow : List ℕ → Type 0
-NoRow text = (r : List ℕ) → Both (polynomialOf text) (orderOf text) (valuesOf text) r → ⊥
+-- no row over the candidates has what is asked: both properties, or a circulant matrix that is MDS
+unfoldable pub NoRow : Family → List ℕ → Type 0
+NoRow family text = (r : List ℕ) → Asks family (polynomialOf text) (orderOf text) (valuesOf text) r → ⊥
 
 -- the row that a search demands, and the answer text of a row
-abbrev pub DemandedBy : List ℕ → List ℕ → Type 0
-DemandedBy text row = Demanded (polynomialOf text) (orderOf text) (valuesOf text) row
+abbrev pub DemandedBy : Family → List ℕ → List ℕ → Type 0
+DemandedBy family text row = Demanded family (polynomialOf text) (orderOf text) (valuesOf text) row
 
 abbrev pub rowText : List ℕ → List ℕ → List ℕ
 rowText text row = answerText (rowLines (polynomialOf text) (orderOf text) row)
 
--- what is due to a search: the lines of the row demanded; or 9, and no row has both properties
-pub data SearchDue (text : List ℕ) : Answer (List (List ℕ)) → Type 0 where
-  row-due : (r : List ℕ) → DemandedBy text r → SearchDue text (answer 0 (rowLines (polynomialOf text) (orderOf text) r))
-  none-due : NoRow text → SearchDue text (answer 9 [])
+-- what is due to a search: the lines of the row demanded; or 9, and no row has what is asked
+pub data SearchDue (family : Family) (text : List ℕ) : Answer (List (List ℕ)) → Type 0 where
+  row-due : (r : List ℕ) → DemandedBy family text r → SearchDue family text (answer 0 (rowLines (polynomialOf text) (orderOf text) r))
+  none-due : NoRow family text → SearchDue family text (answer 9 [])
 
 -- there is a row demanded, and its text fits the lent space
-pub record RowFits (text space : List ℕ) : Type 0 where
+pub record RowFits (family : Family) (text space : List ℕ) : Type 0 where
   pub row : List ℕ
-  pub demanded : DemandedBy text row
+  pub demanded : DemandedBy family text row
   pub fits : length (rowText text row) ≤ length space
 
 -- there is a row demanded, and the lent space is shorter than its text
-pub record RowTooLong (text space : List ℕ) : Type 0 where
+pub record RowTooLong (family : Family) (text space : List ℕ) : Type 0 where
   pub row : List ℕ
-  pub demanded : DemandedBy text row
+  pub demanded : DemandedBy family text row
   pub too-long : length space < length (rowText text row)
 
 -- the text of the row demanded stands at the start of the space, the bytes behind it are as before, and its length is returned
-pub record RowStands (text space after : List ℕ) (size : ℕ) : Type 0 where
+pub record RowStands (family : Family) (text space after : List ℕ) (size : ℕ) : Type 0 where
   pub row : List ℕ
-  pub demanded : DemandedBy text row
+  pub demanded : DemandedBy family text row
   pub at-start : after ≡ rowText text row ++ drop (length (rowText text row)) space
   pub is-length : size ≡ length (rowText text row)
 
 -- what a call returns and leaves for a search
-pub record SearchAnswered (text space after : List ℕ) (number size : ℕ) : Type 0 where
-  -- 9, whatever space is lent, exactly to a well-formed search over whose candidates no row has both properties
-  pub nine-exactly : (number ≡ 9) ↔ (WellFormedSearch text × NoRow text)
+pub record SearchAnswered (family : Family) (text space after : List ℕ) (number size : ℕ) : Type 0 where
+  -- 9 for a search, whatever space is lent, exactly if it is well formed and no row over its candidates has what is asked
+  pub nine-exactly : ((kindOf text ≡ searchNumber family) × (number ≡ 9)) ↔ (WellFormedSearch family text × NoRow family text)
   -- 0 for a search exactly if it is well formed and the text of the row demanded fits the space
-  pub zero-exactly : ((kindOf text ≡ 1) × (number ≡ 0)) ↔ (WellFormedSearch text × RowFits text space)
+  pub zero-exactly : ((kindOf text ≡ searchNumber family) × (number ≡ 0)) ↔ (WellFormedSearch family text × RowFits family text space)
   -- 10 for a search exactly if it is well formed and the space is shorter than that text
-  pub ten-exactly : ((kindOf text ≡ 1) × (number ≡ 10)) ↔ (WellFormedSearch text × RowTooLong text space)
+  pub ten-exactly : ((kindOf text ≡ searchNumber family) × (number ≡ 10)) ↔ (WellFormedSearch family text × RowTooLong family text space)
   -- nothing else is returned for a well-formed search
-  pub nothing-else : WellFormedSearch text → (number ≡ 9) ⊎ ((number ≡ 0) ⊎ (number ≡ 10))
+  pub nothing-else : WellFormedSearch family text → (number ≡ 9) ⊎ ((number ≡ 0) ⊎ (number ≡ 10))
   -- with 9 its line is left, where it fits; with 0 the text of that row; with 10 no byte changes
-  pub nine-leaves : number ≡ 9 → (after ≡ writtenAt (lineText (9 ∷ [])) space) × (size ≡ 0)
-  pub zero-leaves : kindOf text ≡ 1 → number ≡ 0 → RowStands text space after size
-  pub ten-leaves : kindOf text ≡ 1 → number ≡ 10 → (after ≡ space) × (size ≡ 0)
+  pub nine-leaves : kindOf text ≡ searchNumber family → number ≡ 9 → (after ≡ writtenAt (lineText (9 ∷ [])) space) × (size ≡ 0)
+  pub zero-leaves : kindOf text ≡ searchNumber family → number ≡ 0 → RowStands family text space after size
+  pub ten-leaves : kindOf text ≡ searchNumber family → number ≡ 10 → (after ≡ space) × (size ≡ 0)
 
 -- ---- the refusals of demand 1
 
 -- none of the numbers 1 to 9 applies
 pub record Faultless (text : List ℕ) : Type 0 where
   pub none-stated : (k : ℕ) → StatedOf text k → ⊥
-  pub row-exists : kindOf text ≡ 1 → NoRow text → ⊥
+  pub row-exists : (family : Family) → kindOf text ≡ searchNumber family → NoRow family text → ⊥
 
 -- the number returned is the lowest that applies: of 1 to 8 the lowest that is stated of the text; 9 where none of them is and no row of a
--- search has both properties; where none of 1 to 9 applies, 0, or 10 if the lent space is shorter than the answer due
+-- search has what is asked; where none of 1 to 9 applies, 0, or 10 if the lent space is shorter than the answer due
 pub data Lowest (text space : List ℕ) (number : ℕ) : Type 0 where
   refused : StatedOf text number → ((k : ℕ) → StatedOf text k → number ≤ k) → Lowest text space number
-  none : WellFormedSearch text → NoRow text → number ≡ 9 → Lowest text space number
+  none : (family : Family) → WellFormedSearch family text → NoRow family text → number ≡ 9 → Lowest text space number
   accepted : Faultless text → length (answerText (due text .value)) ≤ length space → number ≡ 0 → Lowest text space number
   too-short : Faultless text → length space < length (answerText (due text .value)) → number ≡ 10 → Lowest text space number
 

@@ -12,8 +12,10 @@ use Rattle.field.specs.Faults.{callFaults}
 use Rattle.matrix.specs.Counts.{total}
 use Rattle.matrix.specs.Answers.{checkOf, isWrongOrder}
 use Rattle.gates.specs.Gates.{Gate, gatesOfMatrix, carriersOfMatrix}
+use Rattle.search.specs.declared.Family.{Family}
+use Rattle.search.specs.declared.Family.the-variants.{Hadamard, Circulant}
 use Rattle.search.specs.Lightest.{Best, nothing, found}
-use Rattle.search.specs.Shape.{hadamardShape}
+use Rattle.search.specs.Shape.{shapeOf}
 use Rattle.search.specs.Answer.{sumOf, lightestRow, someTooLarge, searchFaults}
 use Rattle.search.specs.Demands.{countOfRow}
 use Rattle.text.specs.Reading.{inForm, kindOf, polynomialOf, orderOf, valuesOf}
@@ -33,7 +35,12 @@ pub record Kind : Type 0 where
   pub faults : Request → List Fault
   pub lines : Request → List (List ℕ)
 
--- ---- kind 1, search
+-- ---- kinds 1 and 5, search: for a Hadamard involution, for a circulant matrix
+
+-- the number of the kind that searches for matrices of a family
+abbrev pub searchNumber : Family → ℕ
+searchNumber Hadamard = 1
+searchNumber Circulant = 5
 
 -- line one: 0, sum of element counts, row count, matrix count (n times the row count); line two: the row
 unfoldable pub rowLines : ℕ → ℕ → List ℕ → List (List ℕ)
@@ -43,12 +50,12 @@ abbrev pub bestLines : ℕ → ℕ → Best → List (List ℕ)
 bestLines p n nothing = []
 bestLines p n (found row) = rowLines p n row
 
-unfoldable pub search : Kind
-search =
+unfoldable pub search : Family → Kind
+search family =
     record {
-      number = 1;
-      faults = λ r. searchFaults (r .polynomial) (r .order) (r .values) (lightestRow hadamardShape (r .polynomial) (r .order) (r .values));
-      lines = λ r. bestLines (r .polynomial) (r .order) (lightestRow hadamardShape (r .polynomial) (r .order) (r .values));
+      number = searchNumber family;
+      faults = λ r. searchFaults family (r .polynomial) (r .order) (r .values) (lightestRow (shapeOf family) (r .polynomial) (r .order) (r .values));
+      lines = λ r. bestLines (r .polynomial) (r .order) (lightestRow (shapeOf family) (r .polynomial) (r .order) (r .values));
     }
 
 -- ---- kind 2, check
@@ -125,7 +132,7 @@ gates =
 
 -- the kinds
 unfoldable pub kinds : List Kind
-kinds = search ∷ check ∷ survey ∷ gates ∷ []
+kinds = search Hadamard ∷ check ∷ survey ∷ gates ∷ search Circulant ∷ []
 
 -- the kind of a number; to a number that no kind has, 2 applies
 unfoldable pub kindAmong : List Kind → ℕ → Kind

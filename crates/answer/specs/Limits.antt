@@ -1,4 +1,5 @@
--- What document 01 says of the numbers 1 to 8 under "Who can cause a refusal", of a request text, kind by kind; kind 4 by document 02, Two.
+-- What document 01 says of the numbers 1 to 8 under "Who can cause a refusal", of a request text, kind by kind; kinds 4 and 5 by document 02,
+-- Two and Six.
 -- Assumes nothing.
 use mathlib.Core.Path.{_≡_}
 use mathlib.Core.Logic.{_≢_, _⊎_}
@@ -6,9 +7,11 @@ use mathlib.Core.List.{List, List·Memᴰ}
 use Prim.Native.Nat.{ℕ, _*_, _<_}
 use lib.ListN.{length}
 use Rattle.field.specs.Stated.{Stated}
-use Rattle.search.specs.Stated.{SearchStated}
+use Rattle.search.specs.declared.Family.{Family}
+use Rattle.search.specs.Stated.{StatedFor}
 use Rattle.text.specs.Text.{InForm}
 use Rattle.text.specs.Reading.{kindOf, polynomialOf, orderOf, valuesOf}
+use Rattle.answer.specs.Due.{searchNumber}
 
 -- a check: order n from 1 to 8, count n·n; zeros and repeats are allowed
 abbrev pub CheckStated : ℕ → ℕ → List ℕ → ℕ → Type 0
@@ -25,10 +28,10 @@ pub data SurveyStated (m order : ℕ) (values : List ℕ) : ℕ → Type 0 where
 
 -- the numbers of line one and the values
 pub data RequestStated (kind polynomial order : ℕ) (values : List ℕ) : ℕ → Type 0 where
-  -- 2: kind not 1, 2, 3 or 4
-  no-kind : kind ≢ 1 → kind ≢ 2 → kind ≢ 3 → kind ≢ 4 → RequestStated kind polynomial order values 2
-  -- 3 to 8, by the kind
-  of-search : {k : ℕ} → kind ≡ 1 → SearchStated polynomial order values k → RequestStated kind polynomial order values k
+  -- 2: kind not 1, 2, 3, 4 or 5
+  no-kind : kind ≢ 1 → kind ≢ 2 → kind ≢ 3 → kind ≢ 4 → kind ≢ 5 → RequestStated kind polynomial order values 2
+  -- 3 to 8, by the kind; kinds 1 and 5 are searches
+  of-search : {k : ℕ} (family : Family) → kind ≡ searchNumber family → StatedFor family polynomial order values k → RequestStated kind polynomial order values k
   of-check : {k : ℕ} → kind ≡ 2 → CheckStated polynomial order values k → RequestStated kind polynomial order values k
   of-survey : {k : ℕ} → kind ≡ 3 → SurveyStated polynomial order values k → RequestStated kind polynomial order values k
   -- kind 4: 3 to 7 read it as kind 2

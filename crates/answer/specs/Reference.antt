@@ -1,13 +1,14 @@
 -- The reference lines of document 01 that are marked P, as one table, with the limits of its last point, its example of a search,
--- whole, the gate lists of request Two, surveys in the order of request Three, the depths of request Four, the steps of request Five, and lines that tell apart what the others cannot. Assumes nothing.
+-- whole, the gate lists of request Two, surveys in the order of request Three, the depths of request Four, the steps of request Five,
+-- the circulant searches of request Six, and lines that tell apart what the others cannot. Assumes nothing.
 use mathlib.Core.Path.{_≡_}
 use mathlib.Core.Logic.{_≢_}
 use mathlib.Core.List.{List, [], _∷_, _++_, map, foldl}
-use Prim.Native.Nat.{ℕ, zero, suc}
+use Prim.Native.Nat.{ℕ, zero, suc, _*_, _/_, _%_}
 use Prim.Native.Char.{code}
 use Prim.Native.String.{String, len, charAt}
 use lib.ListN.{length, replicate}
-use Rattle.algebra.specs.Matrix.{tabulate, det}
+use Rattle.algebra.specs.Matrix.{tabulate, det, circulant}
 use Rattle.field.specs.Polynomial.{_⊕_, degree, product, xorCount}
 use Rattle.field.specs.Doubling.{doubled, sumAfter}
 use Rattle.field.specs.Faults.{inverseFaults}
@@ -42,6 +43,8 @@ pub data ReferenceLine : Type 0 where
   matrix-counts : ℕ → ℕ → List ℕ → ℕ → ReferenceLine
   -- over the polynomial this element has these ones for its output bits
   output-ones : ℕ → ℕ → List ℕ → ReferenceLine
+  -- over the polynomial the circulant matrix of this order of this row has these entries, line by line
+  circulants : ℕ → ℕ → List ℕ → List ℕ → ReferenceLine
   -- output bits with these numbers of ones have these depths
   depths : List ℕ → List ℕ → ReferenceLine
   -- over the polynomial the row of this order has this depth
@@ -76,6 +79,7 @@ ReferenceSays (partial-sums p a b values) = tabulate (length values) (sumAfter p
 ReferenceSays (sums elements total) = foldl _⊕_ 0 elements ≡ total
 ReferenceSays (determinants p n entries c) = det (numbers p) n (entriesOf n entries) ≡ c
 ReferenceSays (matrix-counts p n entries c) = matrixCount p n (entriesOf n entries) ≡ c
+ReferenceSays (circulants p n row entries) = tabulate (n * n) (λ k. circulant (numbers p) n row (k / n) (k % n)) ≡ entries
 ReferenceSays (output-ones p a numbers) = tabulate (degree p) (onesInLine p a) ≡ numbers
 ReferenceSays (depths numbers results) = map depthOf numbers ≡ results
 ReferenceSays (row-depths p n row d) = depthOfRow p n row ≡ d
@@ -181,7 +185,7 @@ surveyTexts =
 
 -- gates over 7 (document 02, Two): a matrix that is not its own transpose, whose first output bit joins three inputs; one input alone; a bit that
 -- is always 0. Over 11, order 2: three bits to a word, and output bits of the second word. What the first list computes: the words 1 2 give 3 2,
--- the words 3 3 give 3 3. The refusals of a check; kind 5 is none
+-- the words 3 3 give 3 3. The refusals of a check; kind 9 is none
 unfoldable pub gateLists : List ReferenceLine
 gateLists =
     requests 4 7 2 (2 ∷ 3 ∷ 0 ∷ 1 ∷ [])
@@ -199,7 +203,7 @@ gateLists =
     requests 4 7 9 [] (answer 5 []) ∷
     requests 4 7 2 (1 ∷ 1 ∷ 1 ∷ []) (answer 6 []) ∷
     requests 4 7 1 (4 ∷ []) (answer 7 []) ∷
-    requests 5 7 1 (0 ∷ []) (answer 2 []) ∷
+    requests 9 7 1 (0 ∷ []) (answer 2 []) ∷
     []
 
 -- a gate list, request text and answer text
@@ -208,6 +212,36 @@ gateTexts =
     texts
     ("     4     7     1     1" ∷ "     3" ∷ [])
     ("     0     1" ∷ "     0     1" ∷ "     2" ∷ "     0" ∷ []) ∷
+    []
+
+-- circulant searches (document 02, Six): which entry stands where; order 2, where the row is an involution too; orders 3 and 4, where an element stands
+-- twice and there are fewer candidates than entries; no row of one element; the refusals
+unfoldable pub circulantLines : List ReferenceLine
+circulantLines =
+    circulants 7 3 (1 ∷ 2 ∷ 3 ∷ []) (1 ∷ 2 ∷ 3 ∷ 3 ∷ 1 ∷ 2 ∷ 2 ∷ 3 ∷ 1 ∷ []) ∷
+    requests 5 7 2 (3 ∷ 2 ∷ []) (answer 0 ((0 ∷ 2 ∷ 4 ∷ 8 ∷ []) ∷ (2 ∷ 3 ∷ []) ∷ [])) ∷
+    requests 2 7 2 (2 ∷ 3 ∷ 3 ∷ 2 ∷ []) (answer 0 ((0 ∷ 3 ∷ 1 ∷ 1 ∷ 8 ∷ []) ∷ [])) ∷
+    requests 5 19 3 (1 ∷ 2 ∷ 3 ∷ 4 ∷ []) (answer 0 ((0 ∷ 1 ∷ 9 ∷ 27 ∷ []) ∷ (1 ∷ 1 ∷ 2 ∷ []) ∷ [])) ∷
+    requests 5 283 4 (1 ∷ 2 ∷ 3 ∷ []) (answer 0 ((0 ∷ 14 ∷ 38 ∷ 152 ∷ []) ∷ (1 ∷ 1 ∷ 2 ∷ 3 ∷ []) ∷ [])) ∷
+    requests 5 7 2 (1 ∷ []) (answer 9 []) ∷
+    requests 5 3 2 (1 ∷ []) (answer 3 []) ∷
+    requests 5 5 2 (1 ∷ []) (answer 4 []) ∷
+    requests 5 7 1 (1 ∷ []) (answer 5 []) ∷
+    requests 5 7 9 (1 ∷ []) (answer 5 []) ∷
+    requests 5 7 2 [] (answer 6 []) ∷
+    requests 5 19 2 (tabulate 9 suc) (answer 6 []) ∷
+    not-given 5 19 8 (tabulate 8 suc) 6 ∷
+    requests 5 7 2 (4 ∷ []) (answer 7 []) ∷
+    requests 5 7 2 (0 ∷ []) (answer 8 []) ∷
+    requests 5 7 2 (2 ∷ 2 ∷ []) (answer 8 []) ∷
+    []
+
+-- a circulant search, request text and answer text
+unfoldable pub circulantTexts : List ReferenceLine
+circulantTexts =
+    texts
+    ("     5   283     4     3" ∷ "     1     2     3" ∷ [])
+    ("     0    14    38   152" ∷ "     1     1     2     3" ∷ []) ∷
     []
 
 -- library calls over 19: the inverse of 0; determinants up to size 8; halved products of order 2, 4 or 8
@@ -253,4 +287,4 @@ example =
 
 -- the table
 unfoldable pub referenceLines : List ReferenceLine
-referenceLines = elementLines ++ productSteps ++ searches ++ depthLines ++ checks ++ surveys ++ surveyTexts ++ gateLists ++ gateTexts ++ refusals ++ limits ++ example
+referenceLines = elementLines ++ productSteps ++ searches ++ depthLines ++ checks ++ surveys ++ surveyTexts ++ gateLists ++ gateTexts ++ circulantLines ++ circulantTexts ++ refusals ++ limits ++ example

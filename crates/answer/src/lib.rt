@@ -32,7 +32,7 @@ fn answer_kind(
         (now (space .entry)) (now (space .exit)) (r .number) (r .length) ⌝ }
 {
     match kind {
-        1 => row::search_row(part, space, polynomial, order, count),
+        1 | 5 => row::search_row(part, space, row::family(kind), polynomial, order, count),
         2 | 4 => check::of_matrix(part, space, polynomial, order, count, kind == 4),
         3 => survey::survey(part, space, polynomial, order, count),
         _ => refuse(space, Refusal::Kind),

@@ -1,7 +1,8 @@
-// Kind 1: the lightest row.
+// Kinds 1 and 5: the lightest row.
 
 ghost use mathlib.Core.Path.{_≡_};
 ghost use mathlib.Core.List.{_++_};
+ghost use mathlib.Core.Logic.{_⊎_};
 ghost use Prim.Native.Nat.{_-_, _≤_, min};
 ghost use lib.ListN.{take, replicate};
 ghost use Rattle.refusal.specs.Refusals.{answer};
@@ -9,12 +10,13 @@ ghost use Rattle.field.specs.Polynomial.{Modulus};
 ghost use Rattle.search.specs.Answer.{sumOf};
 ghost use Rattle.text.specs.Text.{SixDigits};
 ghost use Rattle.text.specs.Reading.{valuesFrom};
-ghost use Rattle.answer.specs.Due.{request, rowLines, search, dueTo};
+ghost use Rattle.answer.specs.Due.{request, searchNumber, rowLines, search, dueTo};
 ghost use Rattle.answer.specs.Answered.{Replied};
 use crate::Reply;
 use crate::write::put_answers;
 use crate::write::refuse;
 use refusal::Outcome;
+use search::Family;
 
 // At most 256: one more than a search takes.
 fn at_most(count: u32) -> usize
@@ -61,13 +63,32 @@ fn put_row(space: &mut [u8], p: u16, n: usize, sum: u32, row: [u8; 8]) -> Reply
     put_answers(space, &[0, sum, count, order * count], &entries[..n])
 }
 
-// The search over the candidates, which stand in the part of a request text that follows line one.
-pub fn search_row(part: &[u8], space: &mut [u8], p: u32, n: u32, count: u32) -> Reply
-    ensures { λ r. ⌜ Replied (dueTo search (request p n (valuesFrom (now (part .entry)) 0 count))) (now (space .entry)) (now (space .exit)) (r .number) (r .length) ⌝ }
+// The family of matrices that a kind searches for.
+pub fn family(kind: u32) -> Family
+    requires { ⌜ (kind ≡ 1) ⊎ (kind ≡ 5) ⌝ }
+    ensures { λ r. ⌜ kind ≡ searchNumber r ⌝ }
+{
+    if kind == 5 {
+        Family::Circulant
+    } else {
+        Family::Hadamard
+    }
+}
+
+// The search for matrices of a family over the candidates, which stand in the part of a request text that follows line one.
+pub fn search_row(
+    part: &[u8],
+    space: &mut [u8],
+    family: Family,
+    p: u32,
+    n: u32,
+    count: u32,
+) -> Reply
+    ensures { λ r. ⌜ Replied (dueTo (search family) (request p n (valuesFrom (now (part .entry)) 0 count))) (now (space .entry)) (now (space .exit)) (r .number) (r .length) ⌝ }
 {
     let kept = at_most(count);
     let values = read_values(part, kept);
-    let found = search::search(p, n, &values[..kept]);
+    let found = search::search_for(family, p, n, &values[..kept]);
     let row = found.row;
     let outcome = found.outcome;
     match outcome {

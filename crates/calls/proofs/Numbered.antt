@@ -1,9 +1,11 @@
 -- Laws of lists of replies, each at the number of its call. Assumes nothing.
 use mathlib.Core.Path.{_≡_, refl, sym, ap, _∙_}
+use mathlib.Core.Logic.{⊎-elim}
 use mathlib.Core.List.{List, [], _∷_, _++_, map}
 use Prim.Native.Nat.{ℕ, zero, suc, _+_, _≤_, _<_}
 use native.Mathlib.Omega.{arith}
 use lib.ListN.{length, getD, List·getD-eq-default}
+use Rattle.algebra.proofs.Sums.{le-or-lt}
 use Rattle.refusal.specs.Refusals.{Answer, answerOf}
 use Rattle.refusal.specs.declared.Outcome.{Outcome}
 use Rattle.refusal.specs.declared.Outcome.the-variants.{Value, Refused}
@@ -29,18 +31,14 @@ pub search-told : (o : Outcome) (row : List ℕ) → answerOf o .number ∷ answ
 search-told (Value v) row = refl
 search-told (Refused r) row = refl
 
--- a number that none of the four replies behind the values has
-pub values-kept : (l : List (Answer ℕ)) (a b c d : List ℕ) (call : ℕ)
-    → (call ≡ length l → ⊥) → (call ≡ length l + 1 → ⊥) → (call ≡ length l + 2 → ⊥) → (call ≡ length l + 3 → ⊥)
-    → valueReply (getD l call noAnswer) ≡ getD (map valueReply l ++ a ∷ b ∷ c ∷ d ∷ []) call (valueReply noAnswer)
-values-kept [] a b c d zero h i j k = absurd (h refl)
-values-kept [] a b c d (suc zero) h i j k = absurd (i refl)
-values-kept [] a b c d (suc (suc zero)) h i j k = absurd (j refl)
-values-kept [] a b c d (suc (suc (suc zero))) h i j k = absurd (k refl)
-values-kept [] a b c d (suc (suc (suc (suc n)))) h i j k = refl
-values-kept (v ∷ l) a b c d zero h i j k = refl
-values-kept (v ∷ l) a b c d (suc n) h i j k =
-    values-kept l a b c d n (λ e. h (omega arith)) (λ e. i (omega arith)) (λ e. j (omega arith)) (λ e. k (omega arith))
+-- a number that none of the replies behind the values has
+pub values-kept : (l : List (Answer ℕ)) (more : List (List ℕ)) (call : ℕ) → ((k : ℕ) → k < length more → call ≡ length l + k → ⊥)
+    → valueReply (getD l call noAnswer) ≡ getD (map valueReply l ++ more) call (valueReply noAnswer)
+values-kept [] more call h =
+    sym (List·getD-eq-default more (valueReply noAnswer) {n = call}
+    (⊎-elim (λ (m : length more ≤ call). m) (λ (m : call < length more). absurd (h call m (omega arith))) (le-or-lt (length more) call)))
+values-kept (v ∷ l) more zero h = refl
+values-kept (v ∷ l) more (suc n) h = values-kept l more n (λ k m e. h k m (omega arith))
 
 -- the same call of the same values
 pub same-reply : {call call' p p' a a' b b' : ℕ} {m m' : List (List ℕ)} {x x' l l' : List ℕ}

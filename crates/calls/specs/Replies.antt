@@ -9,6 +9,7 @@ use Rattle.field.specs.Faults.{polynomialFaults, productFaults, inverseFaults, 
 use Rattle.matrix.specs.Numbers.{numbers, elements, entry}
 use Rattle.matrix.specs.Counts.{rowCount, matrixCount}
 use Rattle.matrix.specs.Answers.{yesNo, determinantFaults, matrixFaults, rowFaults, plainFaults, halvedFaults, checkOf}
+use Rattle.search.specs.declared.Family.the-variants.{Hadamard, Circulant}
 use Rattle.search.specs.Answer.{RowFound, searchAnswer}
 use Rattle.calls.specs.Records.{callIn, polynomialIn, firstIn, secondIn, matrixIn, inputIn, candidatesIn}
 
@@ -52,7 +53,7 @@ valueAnswers p a b m x =
 abbrev pub eightWords : ℕ → List ℕ → List ℕ
 eightWords n words = words ++ replicate (8 - n) 0
 
--- behind them 11 plain product, 12 halved product of the row that is the first line of the matrix, 13 check, 14 search
+-- behind them 11 plain product, 12 halved product of the row that is the first line of the matrix, 13 check, 14 search, 15 search for a circulant matrix
 unfoldable pub replies : ℕ → ℕ → ℕ → List (List ℕ) → List ℕ → List ℕ → List (List ℕ)
 replies p a b m x candidates =
     let row = getD m 0 [] in
@@ -60,7 +61,8 @@ replies p a b m x candidates =
     ++ wordsReply (answerAfter (replicate 8 0) (plainFaults p a (entry m) x) (eightWords a (apply (numbers p) a (entry m) x)))
     ∷ wordsReply (answerAfter (replicate 8 0) (halvedFaults p a row x) (eightWords a (apply (numbers p) a (hadamard (numbers p) row) x)))
     ∷ checkReply (answerAfter (replicate 4 0) (matrixFaults p a (entry m)) (checkOf p a (entry m)))
-    ∷ searchReply (searchAnswer p a candidates)
+    ∷ searchReply (searchAnswer Hadamard p a candidates)
+    ∷ searchReply (searchAnswer Circulant p a candidates)
     ∷ []
 
 -- the reply to a call; to a number that no call has, nothing

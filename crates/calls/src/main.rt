@@ -203,6 +203,7 @@ fn reply_to(
         }
         13 => check_reply(matrix::call::checked_check(p, m, a)),
         14 => search_reply(search::search(p, a, candidates)),
+        15 => search_reply(search::search_circulant(p, a, candidates)),
         _ => value_reply(value_call(call, p, a, b, m, x)),
     }
 }

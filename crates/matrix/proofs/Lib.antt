@@ -1,10 +1,14 @@
 -- Laws of matrices over the numbers of a field.
 pub mod Squares
+pub mod Invariance
 pub mod Translates
+pub mod Rotations
 pub mod Residues
 pub mod Theorems
 pub mod Rows
 pub mod Planes
+pub mod Circulants
+pub mod SmallBlocks
 pub mod Filled
 pub mod Halving
 pub mod Minors

@@ -18,7 +18,7 @@ use Rattle.algebra.proofs.Sums.{le-or-lt}
 use Rattle.algebra.proofs.Involution.{and-left, and-right}
 use Rattle.field.specs.Steps.{everyBelow}
 use Rattle.field.proofs.Inverses.{first-is, first-before, first-there}
-use Rattle.matrix.specs.Steps.Choice.{translated, isLeast, isLookedAt, isChoice, nextChoice}
+use Rattle.matrix.specs.Steps.Choice.{translated, isLeast, rotated, isLeastAround, isLookedAt, isChoice, nextChoice}
 use Rattle.matrix.proofs.Squares.{every-each}
 
 -- what holds of the numbers before c, of c and of those behind it holds of all
@@ -28,69 +28,69 @@ around P c before now behind s =
 
 -- ---- choices
 
-module _ (least : Bool) (k s : ℕ) where
+module _ (look k s : ℕ) where
   -- k ones, and looked at or not below 256
-  pub is-choice : ones s ≡ k → (s < 256 → isLookedAt least s ≡ true) → isChoice least k s ≡ true
+  pub is-choice : ones s ≡ k → (s < 256 → isLookedAt look s ≡ true) → isChoice look k s ≡ true
   unfolding isChoice
   is-choice e h =
-      ⊎-elim (λ (l : 256 ≤ s). rw (eq-eqb (ones s) k e, le-leb 256 s l, or-true (isLookedAt least s)) refl)
+      ⊎-elim (λ (l : 256 ≤ s). rw (eq-eqb (ones s) k e, le-leb 256 s l, or-true (isLookedAt look s)) refl)
       (λ (l : s < 256). rw (eq-eqb (ones s) k e, h l) refl) (le-or-lt 256 s)
 
   -- a choice has k ones
-  pub choice-ones : isChoice least k s ≡ true → ones s ≡ k
+  pub choice-ones : isChoice look k s ≡ true → ones s ≡ k
   unfolding isChoice
-  choice-ones e = eqb-true (ones s) k (and-right (isLookedAt least s || leb 256 s) (eqb (ones s) k) e)
+  choice-ones e = eqb-true (ones s) k (and-right (isLookedAt look s || leb 256 s) (eqb (ones s) k) e)
 
   -- and is looked at
-  pub choice-looked : s < 256 → isChoice least k s ≡ true → isLookedAt least s ≡ true
+  pub choice-looked : s < 256 → isChoice look k s ≡ true → isLookedAt look s ≡ true
   unfolding isChoice
   choice-looked l e =
-      rw (lt-leb 256 s l, or-false (isLookedAt least s)) at (and-left (isLookedAt least s || leb 256 s) (eqb (ones s) k) e)
+      rw (lt-leb 256 s l, or-false (isLookedAt look s)) at (and-left (isLookedAt look s || leb 256 s) (eqb (ones s) k) e)
 
   -- a mask of other ones is none
-  other-ones : eqb (ones s) k ≡ false → isChoice least k s ≡ false
+  other-ones : eqb (ones s) k ≡ false → isChoice look k s ≡ false
   unfolding isChoice
-  other-ones e = rw e (and-false (isLookedAt least s || leb 256 s))
+  other-ones e = rw e (and-false (isLookedAt look s || leb 256 s))
 
   -- nor is one below 256 that is not looked at
-  not-looked : s < 256 → isLookedAt least s ≡ false → isChoice least k s ≡ false
+  not-looked : s < 256 → isLookedAt look s ≡ false → isChoice look k s ≡ false
   unfolding isChoice
   not-looked l e = rw (e, lt-leb 256 s l) refl
 
 -- ---- the next choice
 
-module _ (least : Bool) (mask : ℕ) where
+module _ (look mask : ℕ) where
   -- it is behind the mask
-  pub next-later : mask < nextChoice least mask
+  pub next-later : mask < nextChoice look mask
   unfolding nextChoice
   next-later = omega arith
 
   -- it is a choice
-  pub next-found : nextChoice least mask < 256 → isChoice least (ones mask) (nextChoice least mask) ≡ true
+  pub next-found : nextChoice look mask < 256 → isChoice look (ones mask) (nextChoice look mask) ≡ true
   unfolding nextChoice
-  next-found l = first-there 512 (λ t. isChoice least (ones mask) (suc mask + t)) (omega arith)
+  next-found l = first-there 512 (λ t. isChoice look (ones mask) (suc mask + t)) (omega arith)
 
   -- none between is one
-  pub next-between : (s : ℕ) → mask < s → s < nextChoice least mask → isChoice least (ones mask) s ≡ false
+  pub next-between : (s : ℕ) → mask < s → s < nextChoice look mask → isChoice look (ones mask) s ≡ false
   unfolding nextChoice
   next-between s l h =
       let e : suc mask + (s - suc mask) ≡ s = omega arith in
-      rw e at (first-before 512 (λ t. isChoice least (ones mask) (suc mask + t)) (s - suc mask) (omega arith))
+      rw e at (first-before 512 (λ t. isChoice look (ones mask) (suc mask + t)) (s - suc mask) (omega arith))
 
   -- r is behind the mask and has as many ones, and none between is a choice
   pub record Skipped (r : ℕ) : Type 0 where
     pub later : mask < r
     pub most : r < 512
     pub many : ones r ≡ ones mask
-    pub between : (s : ℕ) → mask < s → s < r → isChoice least (ones mask) s ≡ false
+    pub between : (s : ℕ) → mask < s → s < r → isChoice look (ones mask) s ≡ false
 
   -- where it is looked at, or not below 256, it is the next one
-  pub skipped-next : (r : ℕ) → Skipped r → (r < 256 → isLookedAt least r ≡ true) → r ≡ nextChoice least mask
+  pub skipped-next : (r : ℕ) → Skipped r → (r < 256 → isLookedAt look r ≡ true) → r ≡ nextChoice look mask
   unfolding nextChoice
   skipped-next r w h =
       sym e
-      ∙ ap (λ (t : ℕ). suc mask + t) (sym (first-is 512 (r - suc mask) (λ t. isChoice least (ones mask) (suc mask + t)) (omega (arith, w .most))
-      (rw e (is-choice least (ones mask) r (w .many) h)) (λ j l. w .between (suc mask + j) (omega arith) (omega arith))))
+      ∙ ap (λ (t : ℕ). suc mask + t) (sym (first-is 512 (r - suc mask) (λ t. isChoice look (ones mask) (suc mask + t)) (omega (arith, w .most))
+      (rw e (is-choice look (ones mask) r (w .many) h)) (λ j l. w .between (suc mask + j) (omega arith) (omega arith))))
     where
       e : suc mask + (r - suc mask) ≡ r
       e = omega (arith, w .later)
@@ -121,16 +121,16 @@ module _ (mask : ℕ) (a : 1 ≤ mask) (b : mask < 256) where
   lowest-positive = ltb-true 0 (lowest mask) (each-mask (λ m. ltb 0 (lowest m)) (unfold everyBelow lowest in refl) mask a b)
 
   -- no choice is skipped
-  none-between : (s : ℕ) → mask < s → s < following mask → isChoice false (ones mask) s ≡ false
+  none-between : (s : ℕ) → mask < s → s < following mask → isChoice 0 (ones mask) s ≡ false
   unfolding noneBetween
   none-between s l h =
       let e : suc mask + (s - suc mask) ≡ s = omega arith in
-      other-ones false (ones mask) s (not-true (eqb (ones s) (ones mask)) (rw e at (every-each (following mask - suc mask)
+      other-ones 0 (ones mask) s (not-true (eqb (ones s) (ones mask)) (rw e at (every-each (following mask - suc mask)
       (λ t. not (eqb (ones (suc mask + t)) (ones mask))) (each-mask noneBetween (unfold everyBelow following lowest ones in refl) mask a b)
       (s - suc mask) (omega arith))))
 
   -- the code's mask follows, with as many ones
-  follows : Skipped false mask (following mask)
+  follows : Skipped 0 mask (following mask)
   follows =
       record {
         later = ltb-true mask (following mask) (each-mask (λ m. ltb m (following m)) (unfold everyBelow following lowest in refl) mask a b);
@@ -141,37 +141,37 @@ module _ (mask : ℕ) (a : 1 ≤ mask) (b : mask < 256) where
       }
 
   -- so it is the next choice where all are looked at
-  pub following-next : following mask ≡ nextChoice false mask
+  pub following-next : following mask ≡ nextChoice 0 mask
   unfolding isLookedAt
-  following-next = skipped-next false mask (following mask) follows (λ l. refl)
+  following-next = skipped-next 0 mask (following mask) follows (λ l. refl)
 
 -- ---- the walk over the masks of as many ones to the next one that is looked at
 
-module _ (least : Bool) (mask r : ℕ) where
+module _ (look mask r : ℕ) where
   -- what is no choice where all are looked at is none where only some are
-  pub skipped-any : Skipped false mask r → Skipped least mask r
+  pub skipped-any : Skipped 0 mask r → Skipped look mask r
   unfolding isChoice isLookedAt
   skipped-any w =
       record {
         later = w .later;
         most = w .most;
         many = w .many;
-        between = λ s l h. other-ones least (ones mask) s (w .between s l h);
+        between = λ s l h. other-ones look (ones mask) s (w .between s l h);
       }
 
   -- a mask that is not looked at is skipped
-  pub skipped-more : (d : ℕ) → Skipped least mask r → r < 256 → isLookedAt least r ≡ false → Skipped false r d → Skipped least mask d
+  pub skipped-more : (d : ℕ) → Skipped look mask r → r < 256 → isLookedAt look r ≡ false → Skipped 0 r d → Skipped look mask d
   unfolding isChoice isLookedAt
   skipped-more d w l e v =
       record { later = omega (arith, w .later, v .later); most = v .most; many = v .many ∙ w .many; between = none }
     where
-      none : (s : ℕ) → mask < s → s < d → isChoice least (ones mask) s ≡ false
+      none : (s : ℕ) → mask < s → s < d → isChoice look (ones mask) s ≡ false
       none =
-          around (λ s. mask < s → s < d → isChoice least (ones mask) s ≡ false) r (λ s h a b. w .between s a h)
-          (λ a b. not-looked least (ones mask) r l e) (λ s h a b. other-ones least (ones mask) s (rw (w .many) at (v .between s h b)))
+          around (λ s. mask < s → s < d → isChoice look (ones mask) s ≡ false) r (λ s h a b. w .between s a h)
+          (λ a b. not-looked look (ones mask) r l e) (λ s h a b. other-ones look (ones mask) s (rw (w .many) at (v .between s h b)))
 
 -- what `next_choice` returns skips none
-pub choice-skips : (mask r : ℕ) → 1 ≤ mask → mask < 256 → r ≡ nextChoice false mask → Skipped false mask r
+pub choice-skips : (mask r : ℕ) → 1 ≤ mask → mask < 256 → r ≡ nextChoice 0 mask → Skipped 0 mask r
 choice-skips mask r a b e = rw (e ∙ sym (following-next mask a b)) (follows mask a b)
 
 -- ---- the first choice
@@ -183,32 +183,51 @@ few-ones (suc k) s h =
     ⊎-elim (λ (l : 2 ^ k ≤ suc (s / 2)). omega (arith, ones-step s, ones-le k (s / 2) (omega (arith, pow-suc 2 k)), pow-suc 2 k))
     (λ (l : suc (s / 2) < 2 ^ k). omega (arith, ones-step s, few-ones k (s / 2) l)) (le-or-lt (2 ^ k) (suc (s / 2)))
 
-module _ (least : Bool) (k : ℕ) where
-  -- the lowest k places: no translation makes that choice smaller
-  pub first-choice : k ≤ 8 → isChoice least k (2 ^ k - 1) ≡ true
-  unfolding isLookedAt
-  first-choice h =
-      is-choice least k (2 ^ k - 1) (ones-ones k) (λ l.
-      rw (every-each 9 (λ i. isLeast (2 ^ i - 1)) (unfold everyBelow isLeast translated chosen placesFrom in refl) k (omega arith)) (or-true (not least)))
+-- it is looked at, computed for all
+first-looked : everyBelow 9 (λ t. everyBelow 9 (λ i. isLookedAt t (2 ^ i - 1))) ≡ true
+unfolding everyBelow isLookedAt isLeast translated isLeastAround rotated chosen placesFrom
+first-looked = refl
+
+module _ (look k : ℕ) where
+  -- the lowest k places: neither a translation nor a rotation makes that choice smaller
+  pub first-choice : look ≤ 8 → k ≤ 8 → isChoice look k (2 ^ k - 1) ≡ true
+  first-choice o h =
+      is-choice look k (2 ^ k - 1) (ones-ones k) (λ l. every-each 9 (λ i. isLookedAt look (2 ^ i - 1))
+      (every-each 9 (λ t. everyBelow 9 (λ i. isLookedAt t (2 ^ i - 1))) first-looked look (omega arith)) k (omega arith))
 
   -- none before it
-  pub before-first : (s : ℕ) → s < 2 ^ k - 1 → isChoice least k s ≡ false
-  before-first s h = other-ones least k s (ne-eqb (ones s) k (λ e. omega (arith, few-ones k s (omega arith))))
+  pub before-first : (s : ℕ) → s < 2 ^ k - 1 → isChoice look k s ≡ false
+  before-first s h = other-ones look k s (ne-eqb (ones s) k (λ e. omega (arith, few-ones k s (omega arith))))
 
--- ---- the table of the choices that no translation makes smaller
+-- ---- the table of the choices that are looked at
 
 -- the numbers of the code's table
-abbrev pub leastTable : List ℕ
-leastTable = 4294869227 ∷ 2967994368 ∷ 2363490304 ∷ 3900738240 ∷ 0 ∷ 0 ∷ 0 ∷ 2147483648 ∷ []
+abbrev pub leastTable : List (List ℕ)
+leastTable =
+    (4294967295 ∷ 4294967295 ∷ 4294967295 ∷ 4294967295 ∷ 4294967295 ∷ 4294967295 ∷ 4294967295 ∷ 4294967295 ∷ []) ∷
+    (4294869227 ∷ 2967994368 ∷ 2363490304 ∷ 3900738240 ∷ 0 ∷ 0 ∷ 0 ∷ 2147483648 ∷ []) ∷
+    (3149642683 ∷ 3149642683 ∷ 3149642683 ∷ 3149642683 ∷ 3149642683 ∷ 3149642683 ∷ 3149642683 ∷ 3149642683 ∷ []) ∷
+    (2341178251 ∷ 2341178251 ∷ 2341178251 ∷ 2341178251 ∷ 2341178251 ∷ 2341178251 ∷ 2341178251 ∷ 2341178251 ∷ []) ∷
+    (2158723243 ∷ 2158723243 ∷ 2158723243 ∷ 2158723243 ∷ 2158723243 ∷ 2158723243 ∷ 2158723243 ∷ 2158723243 ∷ []) ∷
+    (2147518635 ∷ 2147518635 ∷ 2147518635 ∷ 2147518635 ∷ 2147518635 ∷ 2147518635 ∷ 2147518635 ∷ 2147518635 ∷ []) ∷
+    (2292230827 ∷ 2147483648 ∷ 2292230827 ∷ 2147483648 ∷ 2292230827 ∷ 2147483648 ∷ 2292230827 ∷ 2147483648 ∷ []) ∷
+    (2829626027 ∷ 2155907072 ∷ 0 ∷ 2147483648 ∷ 2829626027 ∷ 2155907072 ∷ 0 ∷ 2147483648 ∷ []) ∷
+    (2863311531 ∷ 2829625504 ∷ 2292187136 ∷ 2155905024 ∷ 0 ∷ 0 ∷ 0 ∷ 2147483648 ∷ []) ∷ []
 
--- digit s % 32 of number s / 32
-abbrev pub inTable : ℕ → Bool
-inTable s = eqb (bitAnd (getD leastTable (s / 32) 0 / 2 ^ (s % 32)) 1) 1
+-- digit s % 32 of number s / 32 of a line
+abbrev pub inTable : ℕ → ℕ → Bool
+inTable look s = eqb (bitAnd (getD (getD leastTable look []) (s / 32) 0 / 2 ^ (s % 32)) 1) 1
 
 -- the table, computed for all masks
-pub table-least : (s : ℕ) → s < 256 → inTable s ≡ isLeast s
-table-least s h =
-    sym (getD-tabulate 256 inTable s false h) ∙ ap (λ (l : List Bool). getD l s false) computed ∙ getD-tabulate 256 isLeast s false h
+computed : tabulate 9 (λ look. tabulate 256 (inTable look)) ≡ tabulate 9 (λ look. tabulate 256 (isLookedAt look))
+unfolding everyBelow isLookedAt isLeast translated isLeastAround rotated chosen placesFrom tabulate
+computed = refl
+
+pub table-looked : (look s : ℕ) → look ≤ 8 → s < 256 → inTable look s ≡ isLookedAt look s
+table-looked look s o h =
+    sym (at inTable) ∙ ap (λ (l : List (List Bool)). getD (getD l look []) s false) computed ∙ at isLookedAt
   where
-    computed : tabulate 256 inTable ≡ tabulate 256 isLeast
-    computed = unfold everyBelow isLeast translated chosen placesFrom tabulate in refl
+    at : (test : ℕ → ℕ → Bool) → getD (getD (tabulate 9 (λ look. tabulate 256 (test look))) look []) s false ≡ test look s
+    at test =
+        ap (λ (l : List Bool). getD l s false) (getD-tabulate 9 (λ look. tabulate 256 (test look)) look [] (omega arith))
+        ∙ getD-tabulate 256 (test look) s false h

@@ -1,7 +1,7 @@
 -- The numbers below 2^m are a field: the theorems of crate algebra hold for them, and carry over to numbers.
 -- Assumes nothing.
 use mathlib.Core.Path.{_≡_, refl, sym, ap, _∙_}
-use mathlib.Core.Bool.{Bool, false}
+use mathlib.Core.Bool.{false}
 use mathlib.Core.HLevel.{Σ-prop-path}
 use mathlib.Core.List.{List, [], _∷_, map, List·Memᴰ, Memᴰ·cast}
 use Prim.Native.Nat.{ℕ, suc, _^_, _%_, _<_, suc-le-suc}
@@ -191,6 +191,6 @@ module _ (p : ℕ) (h : Modulus p) where
         ∙ involution-bridge residues (numbers p) (number p) number-keeps n F f e (residueList p)
 
     -- the test of square blocks
-    pub regular-carried : (least : Bool) (above most : ℕ)
-        → regularBetween (numbers p) n f least above most ≡ regularBetween residues n F least above most
+    pub regular-carried : (look above most : ℕ)
+        → regularBetween (numbers p) n f look above most ≡ regularBetween residues n F look above most
     regular-carried = regular-bridge residues (numbers p) (number p) number-keeps n F f e

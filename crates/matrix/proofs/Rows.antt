@@ -33,6 +33,13 @@ use Rattle.matrix.proofs.Residues.{branch-carried, mds-carried, involut
 pub lifted : (p n : ℕ) → List ℕ → List (Residue p)
 lifted p n row = tabulate n (λ i. lift p (getD row i 0))
 
+-- entry i of a row of any length, as an element
+pub lifted-word : (p : ℕ) (h : Modulus p) (n : ℕ) (row : List ℕ) → WordsInField p n row → (i : ℕ) → i < n
+    → getD (lifted p n row) i (residues p h .null) .0 ≡ getD row i 0
+unfolding lifted WordsInField
+lifted-word p h n row below i l =
+    ap (number p) (getD-tabulate n (λ i. lift p (getD row i 0)) i (residues p h .null) l) ∙ lift-number p (getD row i 0) (below i l)
+
 module _ (p : ℕ) (h : Modulus p) (k : ℕ) where
   -- the field of elements
   abbrev R : Operations
@@ -44,8 +51,7 @@ module _ (p : ℕ) (h : Modulus p) (k : ℕ) where
   module _ (row : List ℕ) (below : WordsInField p (2 ^ k) row) where
     -- entry i, as an element
     pub word : (i : ℕ) → i < 2 ^ k → getD (lifted p (2 ^ k) row) i (R .null) .0 ≡ getD row i 0
-    unfolding lifted WordsInField
-    word i l = ap (number p) (getD-tabulate (2 ^ k) (λ i. lift p (getD row i 0)) i (R .null) l) ∙ lift-number p (getD row i 0) (below i l)
+    word = lifted-word p h (2 ^ k) row below
 
     -- the matrix's entries
     pub entries : (i j : ℕ) → i < 2 ^ k → j < 2 ^ k → hadamard R (lifted p (2 ^ k) row) i j .0 ≡ hadamard (numbers p) row i j
@@ -92,11 +98,11 @@ module _ (p : ℕ) (h : Modulus p) (k : ℕ) where
     -- of a Hadamard involution the blocks up to half the order decide on MDS, of the choices of columns those that no translation makes smaller
     pub half-is-enough : 1 ≤ k → k ≤ 3 → sum (numbers p) (2 ^ k) (λ i. getD row i 0) ≡ 1
         → isMds (numbers p) (elements p) (2 ^ k) (hadamard (numbers p) row)
-        ≡ regularBetween (numbers p) (2 ^ k) (hadamard (numbers p) row) true 0 (2 ^ (k - 1))
+        ≡ regularBetween (numbers p) (2 ^ k) (hadamard (numbers p) row) 1 0 (2 ^ (k - 1))
     half-is-enough low high one =
         mds-carried p h (2 ^ k) _ _ entries
         ∙ Translates.half-is-enough R L (all p) (complete p) k low high _ (same-number p _ _ (sums ∙ one))
-        ∙ sym (regular-carried p h (2 ^ k) _ _ entries true 0 (2 ^ (k - 1)))
+        ∙ sym (regular-carried p h (2 ^ k) _ _ entries 1 0 (2 ^ (k - 1)))
 
   -- ---- the row with its places moved
 

@@ -116,47 +116,47 @@ module _ (K : Operations) (n : ℕ) (f : ℕ → ℕ → K .Element) where
   -- ---- the test of all blocks
 
   -- no block that is looked at is singular: the test passes
-  pub none-regular : (least : Bool) (above most : ℕ)
-      → ((k r s : ℕ) → above < k → k ≤ most → r < 2 ^ n → s < 2 ^ n → isLookedAt least s ≡ true → Singular k r s → ⊥)
-      → regularBetween K n f least above most ≡ true
+  pub none-regular : (look above most : ℕ)
+      → ((k r s : ℕ) → above < k → k ≤ most → r < 2 ^ n → s < 2 ^ n → isLookedAt look s ≡ true → Singular k r s → ⊥)
+      → regularBetween K n f look above most ≡ true
   unfolding regularBetween regularOfSize
-  none-regular least above most h =
+  none-regular look above most h =
       each-every most _ (λ k a. or-of (ltb k above) _ (λ z. each-every (2 ^ n) _ (λ s c. each-every (2 ^ n) _ (λ r b.
-      or-of (not (isLookedAt least s)) _ (λ q.
-      regular-of (suc k) r s (h (suc k) r s (suc-le-suc (ltb-false k above z)) a b c (not-false (isLookedAt least s) q)))))))
+      or-of (not (isLookedAt look s)) _ (λ q.
+      regular-of (suc k) r s (h (suc k) r s (suc-le-suc (ltb-false k above z)) a b c (not-false (isLookedAt look s) q)))))))
 
   -- and the other way round
-  pub regular-none : (least : Bool) (above most : ℕ) → regularBetween K n f least above most ≡ true
-      → (k r s : ℕ) → above < k → k ≤ most → r < 2 ^ n → s < 2 ^ n → isLookedAt least s ≡ true → Singular k r s → ⊥
+  pub regular-none : (look above most : ℕ) → regularBetween K n f look above most ≡ true
+      → (k r s : ℕ) → above < k → k ≤ most → r < 2 ^ n → s < 2 ^ n → isLookedAt look s ≡ true → Singular k r s → ⊥
   unfolding regularBetween regularOfSize
-  regular-none least above most e zero r s z a b c q = absurd (not-suc-le-zero z)
-  regular-none least above most e (suc k) r s z a b c q =
+  regular-none look above most e zero r s z a b c q = absurd (not-suc-le-zero z)
+  regular-none look above most e (suc k) r s z a b c q =
       let sized = of-or (ltb k above) _ (every-each most _ e k a) (le-ltb k above (le-of-suc-le-suc z)) in
       of-regular (suc k) r s
-      (of-or (not (isLookedAt least s)) _ (every-each (2 ^ n) _ (every-each (2 ^ n) _ sized s c) r b) (ap not q))
+      (of-or (not (isLookedAt look s)) _ (every-each (2 ^ n) _ (every-each (2 ^ n) _ sized s c) r b) (ap not q))
 
   -- sizes of which every block is known to be regular need not be looked at
-  pub sizes-known : (least : Bool) (above most : ℕ)
+  pub sizes-known : (look above most : ℕ)
       → ((k r s : ℕ) → 1 ≤ k → k ≤ above → r < 2 ^ n → s < 2 ^ n → isRegularBlock K n f k r s ≡ true)
-      → regularBetween K n f least 0 most ≡ regularBetween K n f least above most
-  sizes-known least above most h =
+      → regularBetween K n f look 0 most ≡ regularBetween K n f look above most
+  sizes-known look above most h =
       same-bool _ _
-      (λ t. none-regular least above most (λ k r s z. regular-none least 0 most t k r s (omega arith)))
-      (λ t. none-regular least 0 most (λ k r s z a b c q.
-      ⊎-elim (λ l. of-regular k r s (h k r s z l b c)) (λ l. regular-none least above most t k r s l a b c q) (le-or-lt k above)))
+      (λ t. none-regular look above most (λ k r s z. regular-none look 0 most t k r s (omega arith)))
+      (λ t. none-regular look 0 most (λ k r s z a b c q.
+      ⊎-elim (λ l. of-regular k r s (h k r s z l b c)) (λ l. regular-none look above most t k r s l a b c q) (le-or-lt k above)))
 
 -- ---- MDS
 
 -- the choices that are looked at where all are
-all-looked-at : (s : ℕ) → isLookedAt false s ≡ true
+all-looked-at : (s : ℕ) → isLookedAt 0 s ≡ true
 unfolding isLookedAt
 all-looked-at s = refl
 
 module _ (K : Operations) (L : Field K) (elements : List (K .Element)) (complete : (a : K .Element) → List·Memᴰ a elements) where
   module _ (n : ℕ) (f : ℕ → ℕ → K .Element) where
     -- an MDS matrix has no singular block
-    pub mds-regular : isMds K elements n f ≡ true → (least : Bool) (above most : ℕ) → regularBetween K n f least above most ≡ true
-    mds-regular m least above most = none-regular K n f least above most (λ k r s z a b c q. clash k r s)
+    pub mds-regular : isMds K elements n f ≡ true → (look above most : ℕ) → regularBetween K n f look above most ≡ true
+    mds-regular m look above most = none-regular K n f look above most (λ k r s z a b c q. clash k r s)
       where
         clash : (k r s : ℕ) → Singular K n f k r s → ⊥
         clash k r s w =
@@ -164,51 +164,54 @@ module _ (K : Operations) (L : Field K) (elements : List (K .Element)) (complete
             omega (arith, mds-activity K L elements complete n f m (x .0) (x .1) (x .2), x .4)
 
     -- a light input gives a singular block
-    light-singular : (x : List (K .Element)) → length x ≡ n → 0 < weight K x → activity K n f x ≤ n → (least : Bool) (most : ℕ)
-        → weight K x ≤ most → isLookedAt least (supportMask K x) ≡ true → regularBetween K n f least 0 most ≡ true → ⊥
-    light-singular x e h l least most a q t =
+    light-singular : (x : List (K .Element)) → length x ≡ n → 0 < weight K x → activity K n f x ≤ n → (look most : ℕ)
+        → weight K x ≤ most → isLookedAt look (supportMask K x) ≡ true → regularBetween K n f look 0 most ≡ true → ⊥
+    light-singular x e h l look most a q t =
         let w = light-block K L n f x e h l in
-        regular-none K n f least 0 most t (weight K x) (w .0) (w .1) h a (w .2) (w .3) (rw (w .6) q)
+        regular-none K n f look 0 most t (weight K x) (w .0) (w .1) h a (w .2) (w .3) (rw (w .6) q)
         (record { lines = w .4; columns = w .5; null = w .7 })
 
-    -- a matrix without singular blocks is MDS
-    pub regular-mds : 0 < n → regularBetween K n f false 0 n ≡ true → isMds K elements n f ≡ true
-    regular-mds h t =
-        activity-mds K L elements complete n f h (λ x e w. ⊎-elim
-        (λ l. absurd (light-singular x e w l false n (omega (arith, weight-le K x)) (all-looked-at _) t)) (λ l. l)
-        (le-or-lt (activity K n f x) n))
+    -- ---- which choices of columns are looked at
+
+    -- some input with as many nonzero words, in and out, has its nonzero words in a choice of columns that is looked at
+    abbrev pub LookedAt : ℕ → List (K .Element) → Type 0
+    LookedAt look x =
+        (y : List (K .Element)) × (length y ≡ n) × (weight K y ≡ weight K x) × (activity K n f y ≡ activity K n f x)
+        × (isLookedAt look (supportMask K y) ≡ true)
+
+    -- the blocks that are looked at are regular: no input that has such an input is light
+    none-light : (look most : ℕ) → regularBetween K n f look 0 most ≡ true
+        → (x : List (K .Element)) → LookedAt look x → 0 < weight K x → weight K x ≤ most → n < activity K n f x
+    none-light look most t x y w l =
+        ⊎-elim
+        (λ g. absurd (light-singular (y .0) (y .1) (omega (arith, y .2)) (omega (arith, y .3)) look most (omega (arith, y .2)) (y .4) t))
+        (λ g. g) (le-or-lt (activity K n f x) n)
+
+    -- MDS: every square block that is looked at has a nonzero determinant, where every input has such an input
+    pub looked-decides : 0 < n → (look : ℕ) → ((x : List (K .Element)) → length x ≡ n → LookedAt look x)
+        → isMds K elements n f ≡ regularBetween K n f look 0 n
+    looked-decides h look looked =
+        same-bool _ _ (λ m. mds-regular m look 0 n) (λ t.
+        activity-mds K L elements complete n f h (λ x e w. none-light look n t x (looked x e) w (omega (arith, weight-le K x))))
 
     -- MDS: every square block has a nonzero determinant
-    pub mds-is-regular : 0 < n → isMds K elements n f ≡ regularBetween K n f false 0 n
-    mds-is-regular h = same-bool _ _ (λ m. mds-regular m false 0 n) (regular-mds h)
+    pub mds-is-regular : 0 < n → isMds K elements n f ≡ regularBetween K n f 0 0 n
+    mds-is-regular h = looked-decides h 0 (λ x e. (x, e, refl, refl, all-looked-at _))
 
     -- ---- involutions
 
-    -- some input with as many nonzero words, in and out, has its nonzero words in a choice of columns that is looked at
-    abbrev pub LookedAt : Bool → List (K .Element) → Type 0
-    LookedAt least x =
-        (y : List (K .Element)) × (length y ≡ n) × (weight K y ≡ weight K x) × (activity K n f y ≡ activity K n f x)
-        × (isLookedAt least (supportMask K y) ≡ true)
-
     -- of an involution the blocks up to half the order decide, where every input has such an input
-    pub half-decides : 0 < n → isInvolution K elements n f ≡ true → (least : Bool) (most : ℕ) → n ≤ suc (most + most)
-        → ((x : List (K .Element)) → length x ≡ n → LookedAt least x)
-        → isMds K elements n f ≡ regularBetween K n f least 0 most
-    half-decides h i least most half looked =
-        same-bool _ _ (λ m. mds-regular m least 0 most) (λ t.
+    pub half-decides : 0 < n → isInvolution K elements n f ≡ true → (look most : ℕ) → n ≤ suc (most + most)
+        → ((x : List (K .Element)) → length x ≡ n → LookedAt look x)
+        → isMds K elements n f ≡ regularBetween K n f look 0 most
+    half-decides h i look most half looked =
+        same-bool _ _ (λ m. mds-regular m look 0 most) (λ t.
         activity-mds K L elements complete n f h
-        (half-suffices K L elements complete n f i (λ x e w l.
-        ⊎-elim (λ g. absurd (clash t x e w l g)) (λ g. g) (le-or-lt (activity K n f x) n))))
-      where
-        clash : regularBetween K n f least 0 most ≡ true
-            → (x : List (K .Element)) → length x ≡ n → 0 < weight K x → weight K x + weight K x ≤ n → activity K n f x ≤ n → ⊥
-        clash t x e w l g =
-            let y = looked x e in
-            light-singular (y .0) (y .1) (omega (arith, y .2)) (omega (arith, y .3)) least most (omega (arith, y .2)) (y .4) t
+        (half-suffices K L elements complete n f i (λ x e w l. none-light look most t x (looked x e) w (omega arith))))
 
     -- an involution is MDS exactly if its square blocks up to half the order are regular; at order 1 there is none, and it is MDS
-    pub involution-half : 0 < n → isInvolution K elements n f ≡ true → isMds K elements n f ≡ regularBetween K n f false 0 (n / 2)
-    involution-half h i = half-decides h i false (n / 2) (omega arith) (λ x e. (x, e, refl, refl, all-looked-at _))
+    pub involution-half : 0 < n → isInvolution K elements n f ≡ true → isMds K elements n f ≡ regularBetween K n f 0 0 (n / 2)
+    involution-half h i = half-decides h i 0 (n / 2) (omega arith) (λ x e. (x, e, refl, refl, all-looked-at _))
 
 -- ---- a map that keeps the operations keeps the tests
 
@@ -237,10 +240,10 @@ module _ (K M : Operations) (h : K .Element → M .Element) (H : Homomorphism K 
       record { lines = w .lines; columns = w .columns; null = sym (det-block k r s (w .lines) (w .columns)) ∙ w .null }
 
   -- the test of all blocks is kept
-  pub regular-bridge : (least : Bool) (above most : ℕ) → regularBetween M n g least above most ≡ regularBetween K n f least above most
-  regular-bridge least above most =
+  pub regular-bridge : (look above most : ℕ) → regularBetween M n g look above most ≡ regularBetween K n f look above most
+  regular-bridge look above most =
       same-bool _ _
-      (λ t. none-regular K n f least above most (λ k r s z a b c q w.
-      regular-none M n g least above most t k r s z a b c q (singular-bridge k r s w)))
-      (λ t. none-regular M n g least above most (λ k r s z a b c q w.
-      regular-none K n f least above most t k r s z a b c q (bridge-singular k r s w)))
+      (λ t. none-regular K n f look above most (λ k r s z a b c q w.
+      regular-none M n g look above most t k r s z a b c q (singular-bridge k r s w)))
+      (λ t. none-regular M n g look above most (λ k r s z a b c q w.
+      regular-none K n f look above most t k r s z a b c q (bridge-singular k r s w)))

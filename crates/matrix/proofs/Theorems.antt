@@ -147,21 +147,21 @@ module _ (p : ℕ) (h : Modulus p) where
     -- ---- MDS and square blocks
 
     -- MDS: every square block has a nonzero determinant
-    pub mds-is-regular : 0 < n → isMds (numbers p) (elements p) n f ≡ regularBetween (numbers p) n f false 0 n
+    pub mds-is-regular : 0 < n → isMds (numbers p) (elements p) n f ≡ regularBetween (numbers p) n f 0 0 n
     mds-is-regular g =
         mds-carried p h n f lifted entries
         ∙ Squares.mds-is-regular R L (all p) (complete p) n lifted g
-        ∙ sym (regular-carried p h n f lifted entries false 0 n)
+        ∙ sym (regular-carried p h n f lifted entries 0 0 n)
 
     -- an MDS matrix passes the test, whatever blocks it looks at
-    pub mds-regular : isMds (numbers p) (elements p) n f ≡ true → (least : Bool) (above most : ℕ)
-        → regularBetween (numbers p) n f least above most ≡ true
-    mds-regular t least above most =
-        regular-carried p h n f lifted entries least above most
-        ∙ Squares.mds-regular R L (all p) (complete p) n lifted (sym (mds-carried p h n f lifted entries) ∙ t) least above most
+    pub mds-regular : isMds (numbers p) (elements p) n f ≡ true → (look above most : ℕ)
+        → regularBetween (numbers p) n f look above most ≡ true
+    mds-regular t look above most =
+        regular-carried p h n f lifted entries look above most
+        ∙ Squares.mds-regular R L (all p) (complete p) n lifted (sym (mds-carried p h n f lifted entries) ∙ t) look above most
 
     -- a matrix that passes it with all blocks is MDS
-    pub regular-mds : 0 < n → regularBetween (numbers p) n f false 0 n ≡ true → isMds (numbers p) (elements p) n f ≡ true
+    pub regular-mds : 0 < n → regularBetween (numbers p) n f 0 0 n ≡ true → isMds (numbers p) (elements p) n f ≡ true
     regular-mds g t = mds-is-regular g ∙ t
 
     -- ---- the branch number
@@ -224,11 +224,11 @@ module _ (p : ℕ) (h : Modulus p) where
 
     -- an involution, Hadamard or not, is MDS exactly if its square blocks up to half the order have nonzero determinants
     pub involution-half : 0 < n → isInvolution (numbers p) (elements p) n f ≡ true
-        → isMds (numbers p) (elements p) n f ≡ regularBetween (numbers p) n f false 0 (n / 2)
+        → isMds (numbers p) (elements p) n f ≡ regularBetween (numbers p) n f 0 0 (n / 2)
     involution-half g t =
         mds-carried p h n f lifted entries
         ∙ Squares.involution-half R L (all p) (complete p) n lifted g (sym involution-is ∙ t)
-        ∙ sym (regular-carried p h n f lifted entries false 0 (n / 2))
+        ∙ sym (regular-carried p h n f lifted entries 0 0 (n / 2))
 
     twice-carried : (x : List (Residue p))
         → map (number p) (apply R n lifted (apply R n lifted x)) ≡ apply (numbers p) n f (apply (numbers p) n f (map (number p) x))

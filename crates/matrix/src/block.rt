@@ -1,7 +1,6 @@
 // Square blocks of a matrix: the determinant, and the tests that no square block is singular.
 
 ghost use mathlib.Core.Path.{_≡_};
-ghost use mathlib.Core.Bool.{false};
 ghost use mathlib.Core.List.{[]};
 ghost use Prim.Native.Nat.{_-_, _^_, _≤_, _<_};
 ghost use lib.ListN.{length, getD, replicate};
@@ -159,45 +158,125 @@ pub fn chosen_columns(m: [[u8; 8]; 8], n: usize, columns: u16) -> [[u8; 8]; 8]
 // one, and the others of it go to the lowest places.
 fn next_choice(mask: u16) -> u16
     requires { ⌜ (1 ≤ mask) × (mask < 256) ⌝ }
-    ensures { λ r. ⌜ r ≡ nextChoice false mask ⌝ }
+    ensures { λ r. ⌜ r ≡ nextChoice 0 mask ⌝ }
 {
     let low = mask & (!mask + 1);
     let next = mask + low;
     next | ((mask ^ next) / low / 4)
 }
 
-// The choices below 256 that no translation of the places makes smaller: choice s is digit s % 32 of number s / 32.
-const LEAST: [u32; 8] = [
-    4294869227,
-    2967994368,
-    2363490304,
-    3900738240,
-    0,
-    0,
-    0,
-    2147483648,
+// The choices below 256 that are looked at, for each way to look: choice s is digit s % 32 of number s / 32. Line 0: all choices; line 1:
+// those that no translation of the places makes smaller; line n: those that no rotation of the places below n, modulo n, makes smaller.
+const LEAST: [[u32; 8]; 9] = [
+    [
+        4294967295,
+        4294967295,
+        4294967295,
+        4294967295,
+        4294967295,
+        4294967295,
+        4294967295,
+        4294967295,
+    ],
+    [
+        4294869227,
+        2967994368,
+        2363490304,
+        3900738240,
+        0,
+        0,
+        0,
+        2147483648,
+    ],
+    [
+        3149642683,
+        3149642683,
+        3149642683,
+        3149642683,
+        3149642683,
+        3149642683,
+        3149642683,
+        3149642683,
+    ],
+    [
+        2341178251,
+        2341178251,
+        2341178251,
+        2341178251,
+        2341178251,
+        2341178251,
+        2341178251,
+        2341178251,
+    ],
+    [
+        2158723243,
+        2158723243,
+        2158723243,
+        2158723243,
+        2158723243,
+        2158723243,
+        2158723243,
+        2158723243,
+    ],
+    [
+        2147518635,
+        2147518635,
+        2147518635,
+        2147518635,
+        2147518635,
+        2147518635,
+        2147518635,
+        2147518635,
+    ],
+    [
+        2292230827,
+        2147483648,
+        2292230827,
+        2147483648,
+        2292230827,
+        2147483648,
+        2292230827,
+        2147483648,
+    ],
+    [
+        2829626027,
+        2155907072,
+        0,
+        2147483648,
+        2829626027,
+        2155907072,
+        0,
+        2147483648,
+    ],
+    [
+        2863311531,
+        2829625504,
+        2292187136,
+        2155905024,
+        0,
+        0,
+        0,
+        2147483648,
+    ],
 ];
 
-// Whether a choice of columns is looked at: all of them, or only those that no translation makes smaller.
-fn is_looked_at(least: bool, mask: u16) -> bool
-    requires { ⌜ mask < 256 ⌝ }
-    ensures { λ r. ⌜ r ≡ isLookedAt least mask ⌝ }
+// Whether a choice of columns is looked at, the way `look`: 0 for all of them, 1 for those that no translation makes smaller, n from 2 to 8
+// for those that no rotation modulo n makes smaller.
+fn is_looked_at(look: usize, mask: u16) -> bool
+    requires { ⌜ (mask < 256) × (look ≤ 8) ⌝ }
+    ensures { λ r. ⌜ r ≡ isLookedAt look mask ⌝ }
 {
-    if least {
-        LEAST[mask as usize / 32] >> (mask % 32) & 1 == 1
-    } else {
-        true
-    }
+    LEAST[look][mask as usize / 32] >> (mask % 32) & 1 == 1
 }
 
 // The next choice of as many columns that is looked at, or one of 256 or more.
-fn next_columns(least: bool, mask: u16) -> u16
-    requires { ⌜ (1 ≤ mask) × (mask < 256) ⌝ }
-    ensures { λ r. ⌜ r ≡ nextChoice least mask ⌝ }
+fn next_columns(look: usize, mask: u16) -> u16
+    requires { ⌜ (1 ≤ mask) × (mask < 256) × (look ≤ 8) ⌝ }
+    ensures { λ r. ⌜ r ≡ nextChoice look mask ⌝ }
 {
     let mut r = next_choice(mask);
     while r < 256 {
-        if is_looked_at(least, r) {
+        if is_looked_at(look, r) {
             return r;
         }
         r = next_choice(r);
@@ -211,11 +290,11 @@ pub fn regular_of_size(
     products: &[u8; 65536],
     m: [[u8; 8]; 8],
     n: usize,
-    least: bool,
+    look: usize,
     k: usize,
 ) -> bool
-    requires { ⌜ Modulus p × (n ≤ 8) × (1 ≤ k) × (k ≤ n) × InField p n n m × Products p (now products) ⌝ }
-    ensures { λ r. ⌜ r ≡ regularOfSize (numbers p) n (entry m) least k ⌝ }
+    requires { ⌜ Modulus p × (n ≤ 8) × (1 ≤ k) × (k ≤ n) × InField p n n m × Products p (now products) × (look ≤ 8) ⌝ }
+    ensures { λ r. ⌜ r ≡ regularOfSize (numbers p) n (entry m) look k ⌝ }
 {
     let end: u16 = 1 << n;
     let first: u16 = (1 << k) - 1;
@@ -229,7 +308,7 @@ pub fn regular_of_size(
             }
             lines = next_choice(lines);
         }
-        columns = next_columns(least, columns);
+        columns = next_columns(look, columns);
     }
     end <= columns
 }
@@ -240,16 +319,16 @@ pub fn regular_between(
     products: &[u8; 65536],
     m: [[u8; 8]; 8],
     n: usize,
-    least: bool,
+    look: usize,
     above: usize,
     most: usize,
 ) -> bool
-    requires { ⌜ Modulus p × (n ≤ 8) × (most ≤ n) × InField p n n m × Products p (now products) ⌝ }
-    ensures { λ r. ⌜ r ≡ regularBetween (numbers p) n (entry m) least above most ⌝ }
+    requires { ⌜ Modulus p × (n ≤ 8) × (most ≤ n) × InField p n n m × Products p (now products) × (look ≤ 8) ⌝ }
+    ensures { λ r. ⌜ r ≡ regularBetween (numbers p) n (entry m) look above most ⌝ }
 {
     let mut k = above;
     while k < most {
-        if !regular_of_size(p, products, m, n, least, k + 1) {
+        if !regular_of_size(p, products, m, n, look, k + 1) {
             return false;
         }
         k += 1;

@@ -107,7 +107,7 @@ fn is_mds(p: u16, m: [[u8; 8]; 8], n: usize) -> bool
     ensures { λ r. ⌜ r ≡ isMds (numbers p) (elements p) n (entry m) ⌝ }
 {
     let products = field::products(p);
-    block::regular_between(p, &products, m, n, false, 0, n)
+    block::regular_between(p, &products, m, n, 0, 0, n)
 }
 
 // ---- calls that yield a number

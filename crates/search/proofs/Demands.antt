@@ -1,8 +1,8 @@
--- Demand 3, whole. `demand-three`: a row that is answered is over the brief's elements, its matrix is an involution with branch
--- number order plus one, and every other row over these elements with both properties has a larger XOR count; or the same count and a greater
--- depth; or both the same and a later place. `demand-three-none`: nothing is answered exactly if no row over these elements has both properties.
--- `demand-three-only`: no other row is demanded. `order-of-candidates`: the order of the brief's elements does not matter.
--- They are the theorems `shape-row`, `shape-none`, `shape-only` of any shape, at Hadamard matrices. What compares counts takes a shape by which
+-- Demand 3, whole, for each family. `demand-three`: a row that is answered is over the brief's elements and has what is asked (its Hadamard matrix
+-- is an involution with branch number order plus one; its circulant matrix has branch number order plus one), and every other row over these elements
+-- that has it has a larger XOR count; or the same count and a greater depth; or both the same and a later place. `demand-three-none`: nothing is
+-- answered exactly if no row over these elements has it. `demand-three-only`: no other row is demanded. `order-of-candidates`: the order of the
+-- brief's elements does not matter. They are the theorems `shape-row`, `shape-none`, `shape-only` of any shape, at the family's. What compares counts takes a shape by which
 -- every entry of the row stands in its matrix: then no entry is 0, and rows compare by the sums of their element counts. Assumes nothing.
 use mathlib.Core.Path.{_≡_, refl, sym, ap, ap₂, _∙_}
 use mathlib.Core.Logic.{_≢_, _↔_, _⊎_, inl, inr, ⊎-elim}
@@ -14,17 +14,20 @@ use borrow.Author.Tests.{eqb-true, eq-eqb}
 use lib.Bits.{xor-zero-r}
 use lib.ListN.{length, getD}
 use lib.Seq.{ext-getD}
-use Rattle.algebra.specs.Matrix.{hadamard, branchNumber, isMds, isInvolution}
+use Rattle.algebra.specs.Matrix.{hadamard, circulant, branchNumber, isMds, isInvolution}
 use Rattle.algebra.proofs.Involution.{and-left, and-right}
 use Rattle.algebra.proofs.Sums.{le-or-lt}
 use Rattle.field.specs.Polynomial.{degree}
 use Rattle.matrix.specs.Numbers.{numbers, elements}
 use Rattle.matrix.proofs.Tallies.{full-line}
 use Rattle.matrix.proofs.Theorems.{zero-entry-light}
+use Rattle.search.specs.declared.Family.{Family}
+use Rattle.search.specs.declared.Family.the-variants.{Hadamard, Circulant}
 use Rattle.search.specs.Lightest.{Earlier, nothing, found, rowsOver}
-use Rattle.search.specs.Shape.{Shape, rowMatrix, isGood, hadamardShape}
+use Rattle.search.specs.Shape.{Shape, rowMatrix, isGood, hadamardShape, circulantShape, shapeOf}
 use Rattle.search.specs.Answer.{sumOf, keyOf, lightestRow}
-use Rattle.search.specs.Demands.{countOfRow, Before, by-count, by-depth, by-place, FirstOf, Both, Demanded}
+use Rattle.search.specs.Demands.{countOfRow, Before, by-count, by-depth, by-place, FirstOf, Asks, Demanded}
+use Rattle.search.proofs.Around.{mod-once}
 use Rattle.search.proofs.Keys.{key-lt, key-split, key-same}
 use Rattle.search.proofs.Rows.{mem-rows, sorted-rows, getD-mem, not-passed}
 use Rattle.search.proofs.Lightest.{none-sorted, row-sorted, unique-sorted, same-answer}
@@ -167,34 +170,41 @@ pub order-of-candidates : (shape : Shape) (p n : ℕ) (candidates candidates′ 
 unfolding lightestRow
 order-of-candidates shape p n candidates candidates′ same = same-answer (isGood shape p n) (keyOf p n) (2 ^ degree p) candidates candidates′ n same
 
--- ---- Hadamard matrices, in the customer's words
+-- ---- each family, in the customer's words
 
--- the first column of a Hadamard matrix has the row's entries
-first-column : (n : ℕ) → EveryPlace hadamardShape n
-unfolding hadamardShape
-first-column n a l = (a, 0, l, omega arith, xor-zero-r a)
+-- the first column of a Hadamard matrix has the row's entries, and so has the first line of a circulant matrix
+every-place : (family : Family) (n : ℕ) → EveryPlace (shapeOf family) n
+unfolding hadamardShape circulantShape
+every-place Hadamard n a l = (a, 0, l, omega arith, xor-zero-r a)
+every-place Circulant n a l = (0, a, omega arith, l, mod-once n (a + (n - 0)) a l (omega arith))
 
 -- rows that have the same have the same first
 same-first : (P Q : List ℕ → Type 0) → ((s : List ℕ) → P s ↔ Q s) → (p n : ℕ) (r : List ℕ) → FirstOf P p n r → FirstOf Q p n r
 same-first P Q same p n r d = record { has = same r .0 (d .has); first = λ s q. d .first s (same s .1 q) }
 
-module _ (p n : ℕ) (candidates : List ℕ) where
-  suited-both : (r : List ℕ) → Suited hadamardShape p n candidates r ↔ Both p n candidates r
-  unfolding rowMatrix hadamardShape hadamard
-  suited-both r = (
-    λ s. record { entries = s .entries; over = s .over; involution = s .involution refl; branch = s .branch },
-    λ b. record { entries = b .entries; over = b .over; involution = λ asked. b .involution; branch = b .branch },
-  )
+-- what a shape asks for is what the customer asks for
+suited-asks : (family : Family) (p n : ℕ) (candidates r : List ℕ) → Suited (shapeOf family) p n candidates r ↔ Asks family p n candidates r
+unfolding rowMatrix hadamardShape circulantShape hadamard circulant
+suited-asks Hadamard p n candidates r = (
+  λ s. record { entries = s .entries; over = s .over; involution = s .involution refl; branch = s .branch },
+  λ b. record { entries = b .entries; over = b .over; involution = λ asked. b .involution; branch = b .branch },
+)
+suited-asks Circulant p n candidates r = (
+  λ s. record { entries = s .entries; over = s .over; branch = s .branch },
+  λ b. record { entries = b .entries; over = b .over; involution = λ asked. absurd (false≢true asked); branch = b .branch },
+)
 
-  module _ (fits : (a : ℕ) → List·Memᴰ a candidates → a < 2 ^ degree p) where
-    pub demand-three : (r : List ℕ) → lightestRow hadamardShape p n candidates ≡ found r → Demanded p n candidates r
-    demand-three r e = same-first _ _ suited-both p n r (shape-row hadamardShape p n candidates fits (first-column n) r e)
+module _ (family : Family) (p n : ℕ) (candidates : List ℕ) (fits : (a : ℕ) → List·Memᴰ a candidates → a < 2 ^ degree p) where
+  pub demand-three : (r : List ℕ) → lightestRow (shapeOf family) p n candidates ≡ found r → Demanded family p n candidates r
+  demand-three r e =
+      same-first _ _ (suited-asks family p n candidates) p n r (shape-row (shapeOf family) p n candidates fits (every-place family n) r e)
 
-    pub demand-three-none : (lightestRow hadamardShape p n candidates ≡ nothing) ↔ ((r : List ℕ) → Both p n candidates r → ⊥)
-    demand-three-none =
-        let none = shape-none hadamardShape p n candidates fits in
-        (λ e r b. none .0 e r (suited-both r .1 b), λ h. none .1 (λ r s. h r (suited-both r .0 s)))
+  pub demand-three-none : (lightestRow (shapeOf family) p n candidates ≡ nothing) ↔ ((r : List ℕ) → Asks family p n candidates r → ⊥)
+  demand-three-none =
+      let none = shape-none (shapeOf family) p n candidates fits in
+      (λ e r b. none .0 e r (suited-asks family p n candidates r .1 b), λ h. none .1 (λ r s. h r (suited-asks family p n candidates r .0 s)))
 
-    pub demand-three-only : (r : List ℕ) → Demanded p n candidates r → lightestRow hadamardShape p n candidates ≡ found r
-    demand-three-only r d =
-        shape-only hadamardShape p n candidates fits (first-column n) r (same-first _ _ (λ s. (suited-both s .1, suited-both s .0)) p n r d)
+  pub demand-three-only : (r : List ℕ) → Demanded family p n candidates r → lightestRow (shapeOf family) p n candidates ≡ found r
+  demand-three-only r d =
+      shape-only (shapeOf family) p n candidates fits (every-place family n) r
+      (same-first _ _ (λ s. (suited-asks family p n candidates s .1, suited-asks family p n candidates s .0)) p n r d)

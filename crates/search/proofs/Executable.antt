@@ -1,5 +1,6 @@
--- The search at order 4 in a form that computes: ascending rows only, a row tested only where its sum is 1 and it is lighter than the
--- row kept, and then by its blocks of size 1 and 2. It answers what the search answers.
+-- The searches in a form that computes. For a Hadamard matrix of order 4: ascending rows only, a row tested only where its sum is 1 and it is lighter
+-- than the row kept, and then by its blocks of size 1 and 2. For a circulant matrix: canonical rows only, a row tested only where it is lighter than
+-- the row kept, and then by all its blocks. They answer what the searches answer.
 -- Assumes nothing.
 use mathlib.Core.Path.{_≡_, refl, sym, ap, _∙_}
 use mathlib.Core.Logic.{inl, ⊎-elim}
@@ -10,7 +11,7 @@ use native.Mathlib.Omega.{arith}
 use lib.Dec.{eqb, ltb}
 use lib.ListN.{length, getD}
 use borrow.Author.Tests.{eqb-true, eq-eqb, ltb-true, lt-ltb}
-use Rattle.algebra.specs.Matrix.{tabulate, upTo, sum, hadamard, skip, without, det, placesFrom, chosen, block}
+use Rattle.algebra.specs.Matrix.{tabulate, upTo, before, words, sum, hadamard, circulant, skip, without, det, placesFrom, chosen, block}
 use Rattle.algebra.proofs.Involution.{and-left, and-right}
 use Rattle.algebra.proofs.Symmetry.{same-bool}
 use Rattle.field.specs.Polynomial.{_⊕_, _⊗_, digitsWithin, overDigits, degree, reduce, rem, product, onesInColumns, xorCount, Modulus, firstBelow}
@@ -25,12 +26,16 @@ use Rattle.matrix.specs.Steps.Choice.{translated, isLeast, isLookedAt}
 use Rattle.matrix.specs.Steps.Regular.{isRegularBlock, regularOfSize, regularBetween}
 use Rattle.search.specs.Lightest.{member, among, ascending, rowsOver, Earlier, differs, agrees, Best, nothing, found, lighter, keep, keepAll, lightest}
 use Rattle.search.specs.Steps.IndexMaps.{canonical}
-use Rattle.search.specs.Shape.{isGood, hadamardShape}
+use Rattle.search.specs.Shape.{isGood, hadamardShape, circulantShape}
+use Rattle.search.specs.Steps.Circulant.{CirculantOrder, primePlaces, placeBelow}
 use Rattle.search.specs.Answer.{sumOf, depthOfRow, keyOf, lightestRow}
 use Rattle.search.proofs.Rows.{Sorted, end, then, earlier-cast, sorted-append, sorted-map, getD-mem, mem-words, sorted-ascending, sorted-rows}
 use Rattle.search.proofs.Lightest.{same-lightest}
 use Rattle.search.proofs.Walk.{same-good}
 use Rattle.search.proofs.IndexMaps.{canonical-four}
+use Rattle.search.proofs.CirculantMaps.{canonicalAround}
+use Rattle.search.proofs.CirculantRows.{good-circulant, circulant-below, canonical-circulant}
+use Rattle.matrix.proofs.Theorems.{mds-is-regular}
 use Rattle.search.proofs.HadamardRows.{good-sum, good-regular, word-in-field, canonical-lightest}
 
 -- ---- fewer rows
@@ -155,23 +160,23 @@ sumsToOne p r = eqb (sum (numbers p) 4 (λ i. getD r i 0)) 1
 
 -- its blocks of size 1 and 2 whose columns no translation makes smaller are regular
 abbrev blocksPass : ℕ → List ℕ → Bool
-blocksPass p r = regularBetween (numbers p) 4 (hadamard (numbers p) r) true 0 2
+blocksPass p r = regularBetween (numbers p) 4 (hadamard (numbers p) r) 1 0 2
 
--- the row kept after r; the tests are made one after the other, each only where the one before passed
-unfoldable pub tryRow : ℕ → Best → List ℕ → Best
-tryRow p best r = elim (sumsToOne p r) [
-  | true ↦ elim (lighter (keyOf p 4) best r) [ true ↦ elim (blocksPass p r) [ true ↦ found r | false ↦ best ] | false ↦ best ]
+-- the row kept after r, by an early test, the key, and a late test; they are made one after the other, each only where the one before passed
+unfoldable pub tryRow : (List ℕ → Bool) → (List ℕ → Bool) → (List ℕ → ℕ) → Best → List ℕ → Best
+tryRow early late key best r = elim (early r) [
+  | true ↦ elim (lighter key best r) [ true ↦ elim (late r) [ true ↦ found r | false ↦ best ] | false ↦ best ]
   | false ↦ best
 ]
 
 -- the row kept after all the rows
-unfoldable pub tryAll : ℕ → Best → List (List ℕ) → Best
-tryAll p best [] = best
-tryAll p best (r ∷ rows) = tryAll p (tryRow p best r) rows
+unfoldable pub tryAll : (List ℕ → Bool) → (List ℕ → Bool) → (List ℕ → ℕ) → Best → List (List ℕ) → Best
+tryAll early late key best [] = best
+tryAll early late key best (r ∷ rows) = tryAll early late key (tryRow early late key best r) rows
 
--- the search at order 4, to compute with
+-- the search for a Hadamard matrix at order 4, to compute with
 unfoldable pub computed : ℕ → List ℕ → Best
-computed p candidates = tryAll p nothing (picks (ascending (2 ^ degree p) candidates) 4)
+computed p candidates = tryAll (sumsToOne p) (blocksPass p) (keyOf p 4) nothing (picks (ascending (2 ^ degree p) candidates) 4)
 
 -- three tests, one after the other or together
 lazy : (a b c : Bool) (x y : Best)
@@ -183,11 +188,12 @@ lazy true false false x y = refl
 lazy false b c x y = refl
 
 -- the tests one after the other are the tests together
-tests-together : (p : ℕ) (best : Best) (rows : List (List ℕ)) → tryAll p best rows ≡ keepAll (λ r. sumsToOne p r && blocksPass p r) (keyOf p 4) best rows
+tests-together : (early late : List ℕ → Bool) (key : List ℕ → ℕ) (best : Best) (rows : List (List ℕ))
+    → tryAll early late key best rows ≡ keepAll (λ r. early r && late r) key best rows
 unfolding tryAll tryRow keepAll keep
-tests-together p best [] = refl
-tests-together p best (r ∷ rows) =
-    rw (lazy (sumsToOne p r) (lighter (keyOf p 4) best r) (blocksPass p r) (found r) best) (tests-together p _ rows)
+tests-together early late key best [] = refl
+tests-together early late key best (r ∷ rows) =
+    rw (lazy (early r) (lighter key best r) (late r) (found r) best) (tests-together early late key _ rows)
 
 -- they decide on goodness
 good-tests : (p : ℕ) → Modulus p → (r : List ℕ) → WordsInField p 4 r → isGood hadamardShape p 4 r ≡ (sumsToOne p r && blocksPass p r)
@@ -213,7 +219,27 @@ lightest-computed p h candidates =
     let (l, over) = pick-over letters 4 r m in
     rw (ascends-canonical r l (pick-ascends ascends 4 r m))
     (good-tests p h r (word-in-field p 4 candidates r (mem-words letters 4 r .1 (l, over)))))
-    ∙ sym (tests-together p nothing (picks letters 4))
+    ∙ sym (tests-together (sumsToOne p) (blocksPass p) (keyOf p 4) nothing (picks letters 4))
+
+-- ---- the search for a circulant matrix
+
+-- all blocks of a row's circulant matrix are regular
+abbrev allPass : ℕ → ℕ → List ℕ → Bool
+allPass p n r = regularBetween (numbers p) n (circulant (numbers p) n r) 0 0 n
+
+-- the search, to compute with
+unfoldable pub computedAround : ℕ → ℕ → List ℕ → Best
+computedAround p n candidates = tryAll (canonicalAround n) (allPass p n) (keyOf p n) nothing (words (ascending (2 ^ degree p) candidates) n)
+
+-- it answers what the search answers
+pub circulant-computed : (p n : ℕ) → Modulus p → CirculantOrder n → (candidates : List ℕ) → lightestRow circulantShape p n candidates ≡ computedAround p n candidates
+unfolding computedAround lightest
+circulant-computed p n h o candidates =
+    canonical-circulant p n h o candidates
+    ∙ same-good _ _ (keyOf p n) nothing (words (ascending (2 ^ degree p) candidates) n) (λ r m.
+    let below = circulant-below p n h r (word-in-field p n candidates r m) in
+    ap (λ t. canonicalAround n r && t) (good-circulant p n r ∙ mds-is-regular p h n (circulant (numbers p) n r) below (omega (arith, o .0))))
+    ∙ sym (tests-together (canonicalAround n) (allPass p n) (keyOf p n) nothing (words (ascending (2 ^ degree p) candidates) n))
 
 -- ---- the searches of document 01 over 19, computed
 
@@ -228,6 +254,14 @@ thirty-one = record { low = omega arith; high = omega arith; irreducible = table
 pub sixty-seven : Modulus 67
 unfolding table
 sixty-seven = record { low = omega arith; high = omega arith; irreducible = table-sound 12 (omega arith) }
+
+pub seven : Modulus 7
+unfolding table
+seven = record { low = omega arith; high = omega arith; irreducible = table-sound 0 (omega arith) }
+
+pub two-eighty-three : Modulus 283
+unfolding table
+two-eighty-three = record { low = omega arith; high = omega arith; irreducible = table-sound 39 (omega arith) }
 
 by-computing : {p : ℕ} → Modulus p → (candidates : List ℕ) (best : Best) → computed p candidates ≡ best → lightestRow hadamardShape p 4 candidates ≡ best
 by-computing {p} h candidates best e = lightest-computed p h candidates ∙ e
@@ -253,3 +287,17 @@ pub by-depth-rows : (lightestRow hadamardShape 31 4 (1 ∷ 2 ∷ 3 ∷ 4 ∷ 5 �
     × (lightestRow hadamardShape 67 4 (1 ∷ 8 ∷ 16 ∷ 24 ∷ 49 ∷ 57 ∷ []) ≡ found (1 ∷ 8 ∷ 49 ∷ 57 ∷ []))
 unfolding computed tryAll tryRow picks ascending upTo among member tabulate lighter keyOf sumOf depthOfRow elementCount lineDepth greatest depthOf firstBelow outputOnes onesInLine bit total sum hadamard regularBetween regularOfSize isLookedAt isLeast translated isRegularBlock everyBelow det without skip block chosen placesFrom xorCount onesInColumns ones onesIn product rem reduce degree overDigits digitsWithin _⊗_ _⊕_
 by-depth-rows = (by-computing thirty-one _ _ refl, by-computing thirty-one _ _ refl, by-computing sixty-seven _ _ refl)
+
+-- circulant matrices (document 02, Six): order 2 over 7, order 3 over 19, order 4 over 283, each with an entry that may stand several times but where it
+-- may not; and no row of one element, of order 2 over 7
+pub around-rows : (lightestRow circulantShape 7 2 (3 ∷ 2 ∷ []) ≡ found (2 ∷ 3 ∷ []))
+    × (lightestRow circulantShape 19 3 (1 ∷ 2 ∷ 3 ∷ 4 ∷ []) ≡ found (1 ∷ 1 ∷ 2 ∷ []))
+    × (lightestRow circulantShape 283 4 (1 ∷ 2 ∷ 3 ∷ []) ≡ found (1 ∷ 1 ∷ 2 ∷ 3 ∷ []))
+    × (lightestRow circulantShape 7 2 (1 ∷ []) ≡ nothing)
+unfolding computedAround tryAll tryRow words before canonicalAround placeBelow primePlaces ascending upTo among member tabulate lighter keyOf sumOf depthOfRow elementCount lineDepth greatest depthOf firstBelow outputOnes onesInLine bit total sum circulant regularBetween regularOfSize isLookedAt isLeast translated isRegularBlock everyBelow det without skip block chosen placesFrom xorCount onesInColumns ones onesIn product rem reduce degree overDigits digitsWithin _⊗_ _⊕_
+around-rows = (
+  circulant-computed 7 2 seven (omega arith, omega arith) _ ∙ refl,
+  circulant-computed 19 3 nineteen (omega arith, omega arith) _ ∙ refl,
+  circulant-computed 283 4 two-eighty-three (omega arith, omega arith) _ ∙ refl,
+  circulant-computed 7 2 seven (omega arith, omega arith) _ ∙ refl,
+)

@@ -4,7 +4,7 @@
 use mathlib.Core.Path.{_≡_, refl, sym, ap, subst, _∙_}
 use mathlib.Core.Logic.{inr, ⊎-elim}
 use mathlib.Core.Bool.{Bool, true, false, not, _&&_, and-assoc, and-true, and-false, true≢false}
-use mathlib.Core.List.{List, [], _∷_, _++_, foldl, foldl-append, List·Memᴰ}
+use mathlib.Core.List.{List, [], _∷_, foldl, foldl-append, List·Memᴰ}
 use Prim.Native.Nat.{ℕ, zero, suc, _+_, _-_, _/_, _^_, _≤_, _<_}
 use native.Mathlib.Nat.{pos-of-ne-zero}
 use native.Mathlib.Decide.{decLt}
@@ -12,7 +12,7 @@ use native.Mathlib.Numerals.{add-one}
 use native.Mathlib.Omega.{arith}
 use lib.Bits.{bitXor, xor-lt}
 use lib.Dec.{eqb, ltb}
-use lib.ListN.{length, getD, take, set}
+use lib.ListN.{length, getD, take}
 use lib.Seq.{take-suc, length-take-le, getD-take}
 use borrow.Author.Tests.{ltb-true, lt-ltb, le-ltb, eqb-true, eq-eqb, ne-eqb, not-true}
 use Rattle.algebra.specs.Matrix.{sum, hadamard, isMds, words}
@@ -32,16 +32,17 @@ use Rattle.matrix.proofs.Planes.{fourth, plane-sum, plane-products, one-regular
 use Rattle.search.specs.Lightest.{nothing, member, ascending, lightest}
 use Rattle.search.specs.Shape.{isGood, hadamardShape}
 use Rattle.search.specs.Answer.{keyOf, lightestRow}
-use Rattle.search.specs.Steps.Hadamard.{SearchOrder, placeBefore, isNext, planesPass, mayStand, lastLetter, hadamardCuts}
+use Rattle.search.specs.Steps.Hadamard.{SearchOrder, placeBefore, isNext, planesPass, lastLetter}
+use Rattle.search.specs.Steps.Families.{hadamardCuts}
 use Rattle.search.specs.Steps.IndexMaps.{canonical}
-use Rattle.search.specs.Steps.Prefix.{passes, AllStand, tried}
+use Rattle.search.specs.Steps.Prefix.{mayStand, passes, AllStand, tried}
 use Rattle.search.proofs.Rows.{mem-at, mem-words, member-mem, getD-mem, not-passed}
 use Rattle.search.proofs.Walk.{same-good}
 use Rattle.search.proofs.IndexMaps.{canonical-four, canonical-eight}
 use Rattle.search.proofs.LetterCounts.{member-snoc}
 use Rattle.search.proofs.HadamardRows.{Power, power, good-mds, good-sum, good-positive, good-different, good-regular, regular-same, word-in-field, canonical-lightest}
-use Rattle.search.proofs.Pruning.{OnlyLast, stands-front, tried-stands}
-use Rattle.search.proofs.PlaneCuts.{SingularPlane, planeSum, plane-regular, planes-stored, planes-own, planes-each, planes-hold}
+use Rattle.search.proofs.Pruning.{LooksBack, stand-own, all-next, all-blocks, OnlyLast, stands-front, tried-stands}
+use Rattle.search.proofs.PlaneCuts.{SingularPlane, planeSum, plane-regular, planes-front, planes-each, planes-hold}
 
 -- ---- the orders
 
@@ -136,33 +137,9 @@ module _ (q : List ℕ) (a : ℕ) (t : isNext q a ≡ true) where
 
 -- ---- whether a letter may stand
 
--- it does not come next
-pub stand-not-next : (p n : ℕ) (q : List ℕ) (a : ℕ) → isNext q a ≡ false → mayStand p n q a ≡ false
-unfolding mayStand
-stand-not-next p n q a e = rw e
-
-module _ (p n : ℕ) (row : List ℕ) (d : ℕ) (fits : d < length row) where
-  -- the test of a letter, of the array in which it is stored
-  stand-stored : (a : ℕ) → mayStand p n (take d row) a ≡ (isNext (take d row) a && planesPass p n (set row d a) d)
-  unfolding mayStand
-  stand-stored a =
-      ap (λ (m : ℕ). isNext (take d row) a && planesPass p n (take d row ++ a ∷ []) m) (length-take-le d row (omega arith))
-      ∙ ap (λ t. isNext (take d row) a && t) (planes-stored p n row d fits a)
-
-  -- a plane does not pass
-  pub stand-not-planes : (a : ℕ) → planesPass p n (set row d a) d ≡ false → mayStand p n (take d row) a ≡ false
-  stand-not-planes a e = stand-stored a ∙ (rw (e, and-false))
-
-  -- it may stand
-  pub stand-both : (a : ℕ) → isNext (take d row) a ≡ true → planesPass p n (set row d a) d ≡ true → mayStand p n (take d row) a ≡ true
-  stand-both a e f = stand-stored a ∙ (rw (e, f))
-
-  -- the test of an entry
-  stand-own : mayStand p n (take d row) (getD row d 0) ≡ (isNext (take d row) (getD row d 0) && planesPass p n row d)
-  unfolding mayStand
-  stand-own =
-      ap (λ (m : ℕ). isNext (take d row) (getD row d 0) && planesPass p n (take d row ++ getD row d 0 ∷ []) m) (length-take-le d row (omega arith))
-      ∙ ap (λ t. isNext (take d row) (getD row d 0) && t) (planes-own p n row d fits)
+-- the planes that an entry completes have no place behind it
+pub planes-back : (p n : ℕ) → LooksBack (hadamardCuts p n)
+planes-back p n row d = planes-front p n row d
 
 -- ---- a row whose entries may all stand
 
@@ -175,22 +152,18 @@ pub record SmallBlocks (p n : ℕ) (row : List ℕ) : Type 0 where
 
 module _ (p n : ℕ) (row : List ℕ) (fits : n ≤ length row) (all : AllStand (hadamardCuts p n) n row) where
   -- each entry comes next by the order
-  all-next : (d : ℕ) → d < n → isNext (take d row) (getD row d 0) ≡ true
-  all-next d l = and-left _ (planesPass p n row d) (sym (stand-own p n row d (omega arith)) ∙ all d l)
-
-  -- and its planes pass
-  all-planes : (d : ℕ) → d < n → planesPass p n row d ≡ true
-  all-planes d l = and-right (isNext (take d row) (getD row d 0)) _ (sym (stand-own p n row d (omega arith)) ∙ all d l)
+  each-next : (d : ℕ) → d < n → isNext (take d row) (getD row d 0) ≡ true
+  each-next = all-next (hadamardCuts p n) (planes-back p n) n row fits all
 
   -- no entry is one of those before it
   all-new : (i j : ℕ) → i < j → j < n → getD row i 0 ≡ getD row j 0 → ⊥
   all-new i j l k e =
-      true≢false (sym (member-at row j (getD row j 0) (omega arith) i l e) ∙ next-new (take j row) (getD row j 0) (all-next j k))
+      true≢false (sym (member-at row j (getD row j 0) (omega arith) i l e) ∙ next-new (take j row) (getD row j 0) (each-next j k))
 
   pub small-blocks : SmallBlocks p n row
   small-blocks =
       record {
-        positive = λ i l. next-positive (take i row) (getD row i 0) (all-next i l);
+        positive = λ i l. next-positive (take i row) (getD row i 0) (each-next i l);
         different = λ i j l k e. elim (decLt i j) [
           | yes m ↦ absurd (all-new i j m k e)
           | no m ↦ elim (decLt j i) [
@@ -198,7 +171,7 @@ module _ (p n : ℕ) (row : List ℕ) (fits : n ≤ length row) (all : AllStand 
             | no q ↦ omega arith
           ]
         ];
-        products = λ a b d l m k f. plane-regular p n row d b a f (planes-each p n row d (all-planes d k) b a l m);
+        products = λ a b d l m k f. plane-regular p n row d b a f (planes-each p n row d (all-blocks (hadamardCuts p n) (planes-back p n) n row fits all d k) b a l m);
       }
 
 -- the same of the first entries of an array
@@ -277,7 +250,7 @@ module _ (p n : ℕ) (h : Modulus p) (o : SearchOrder n) (r : List ℕ) (long : 
   unfolding passes
   canonical-passes e g =
       rw (
-        each-every n (λ d. mayStand p n (take d r) (getD r d 0)) stands,
+        each-every n (λ d. mayStand (hadamardCuts p n) (take d r) (getD r d 0)) stands,
         one-last r n (order-least n o) (omega arith) (xor-sum p r n (omega arith) ∙ good-sum p n h o r inField g),
       )
     where
@@ -294,8 +267,8 @@ module _ (p n : ℕ) (h : Modulus p) (o : SearchOrder n) (r : List ℕ) (long : 
           sym (next-passes r (suc d) (getD r (suc d) 0) (omega arith) (omega (arith, order-most n o)) (omega arith)
           (ltb-true _ _ (every-each (n - 1) (risesAt r) (tests n o r ∙ e) d (omega arith))) (new (suc d) l))
 
-      stands : (d : ℕ) → d < n → mayStand p n (take d r) (getD r d 0) ≡ true
-      stands d l = stand-own p n r d (omega arith) ∙ (rw (comes-next d l, good-planes p n h o r inField g d l))
+      stands : (d : ℕ) → d < n → mayStand (hadamardCuts p n) (take d r) (getD r d 0) ≡ true
+      stands d l = stand-own (hadamardCuts p n) (planes-back p n) r d (omega arith) ∙ (rw (comes-next d l, good-planes p n h o r inField g d l))
 
   -- a row that is tried is canonical
   tried-canonical : tried (hadamardCuts p n) p n r ≡ true → canonical n r ≡ true
@@ -303,7 +276,7 @@ module _ (p n : ℕ) (h : Modulus p) (o : SearchOrder n) (r : List ℕ) (long : 
       sym (tests n o r)
       ∙ each-every (n - 1) (risesAt r) (λ d l.
       lt-ltb _ _ (next-larger r (suc d) (getD r (suc d) 0) (omega arith) (omega (arith, order-most n o)) (omega arith)
-      (all-next p n r (omega arith) (tried-stands (hadamardCuts p n) p n r t) (suc d) (omega arith))))
+      (each-next p n r (omega arith) (tried-stands (hadamardCuts p n) p n r t) (suc d) (omega arith))))
 
   tried-same : (canonical n r && isGood hadamardShape p n r) ≡ tried (hadamardCuts p n) p n r
   unfolding tried
@@ -357,10 +330,10 @@ module _ (p n : ℕ) (h : Modulus p) (o : SearchOrder n) (row : List ℕ) (inFie
 
   -- few of its blocks decide, where each entry may stand
   pub matrix-good : n ≤ length row → foldl _⊕_ 0 (take n row) ≡ 1 → AllStand (hadamardCuts p n) n row
-      → regularBetween (numbers p) n (entry m) true 2 (n / 2) ≡ isGood hadamardShape p n (take n row)
+      → regularBetween (numbers p) n (entry m) 1 2 (n / 2) ≡ isGood hadamardShape p n (take n row)
   matrix-good fits e stands =
-      regular-same p n h (entry m) (hadamard (numbers p) (take n row)) in-field same true 2 (n / 2)
-      ∙ sym (sizes-known (numbers p) n (hadamard (numbers p) (take n row)) true 2 (n / 2)
+      regular-same p n h (entry m) (hadamard (numbers p) (take n row)) in-field same 1 2 (n / 2)
+      ∙ sym (sizes-known (numbers p) n (hadamard (numbers p) (take n row)) 1 2 (n / 2)
       (λ k r s l u a b. small-regular p n h o (take n row) in-words (front-blocks p n row fits stands) k r s l u))
       ∙ sym (good-regular p n h o (take n row) in-words one)
     where

@@ -5,7 +5,7 @@ use mathlib.Core.Path.{_≡_, refl, sym, ap, ap₂, subst, _∙_}
 use mathlib.Core.Logic.{⊎-elim}
 use mathlib.Core.Bool.{Bool, true, false, _&&_, true≢false}
 use mathlib.Core.List.{List, List·Memᴰ}
-use Prim.Native.Nat.{ℕ, suc, _+_, _-_, _*_, _/_, _^_, _≤_, _<_}
+use Prim.Native.Nat.{ℕ, _-_, _/_, _^_, _≤_, _<_}
 use native.Mathlib.Omega.{arith}
 use lib.Dec.{eqb}
 use lib.ListN.{length, getD}
@@ -19,15 +19,15 @@ use Rattle.matrix.specs.Steps.Regular.{regularBetween}
 use Rattle.matrix.proofs.Residues.{lift, lift-number, regular-carried}
 use Rattle.matrix.proofs.Rows.{involution-row-sum, row-sum-involution, equal-entries-not-mds, half-is-enough, moved-row-mds, moved-row-involution}
 use Rattle.matrix.proofs.Planes.{nonzero-entry}
-use Rattle.matrix.proofs.Tallies.{elementCount-moved}
 use Rattle.matrix.specs.Depths.{outputOnes, depthOf}
-use Rattle.matrix.proofs.Depths.{bit-not-deeper, lineDepth-least, depth-moved}
+use Rattle.matrix.proofs.Depths.{bit-not-deeper, lineDepth-least}
 use Rattle.search.specs.Lightest.{ascending, lightest, rowsOver}
 use Rattle.search.specs.Steps.IndexMaps.{Move, from, moves, moved, canonical}
 use Rattle.search.specs.Shape.{rowMatrix, isGood, hadamardShape}
-use Rattle.search.specs.Answer.{sumOf, depthOfRow, keyOf, lightestRow}
+use Rattle.search.specs.Answer.{depthOfRow, keyOf, lightestRow}
 use Rattle.search.specs.Steps.Hadamard.{SearchOrder}
 use Rattle.search.proofs.Rows.{getD-mem, mem-words, mem-ascending, sorted-ascending}
+use Rattle.search.proofs.Keys.{key-permuted}
 use Rattle.search.proofs.IndexMaps.{moves-sound, moves-inverse, canonical-rows}
 
 -- ---- the order is a power of 2
@@ -82,7 +82,7 @@ module _ (p : ℕ) (h : Modulus p) (k : ℕ) (row : List ℕ) (below : WordsInFi
 
   -- few square blocks decide
   regular-of : 1 ≤ k → k ≤ 3 → sum (numbers p) (2 ^ k) (λ i. getD row i 0) ≡ 1
-      → isGood hadamardShape p (2 ^ k) row ≡ regularBetween (numbers p) (2 ^ k) (hadamard (numbers p) row) true 0 (2 ^ (k - 1))
+      → isGood hadamardShape p (2 ^ k) row ≡ regularBetween (numbers p) (2 ^ k) (hadamard (numbers p) row) 1 0 (2 ^ (k - 1))
   regular-of g u one =
       good-hadamard p (2 ^ k) row ∙ (rw (row-sum-involution p h k row below one) (half-is-enough p h k row below g u one))
 
@@ -112,11 +112,11 @@ module _ (p n : ℕ) (h : Modulus p) (o : SearchOrder n) (row : List ℕ) (below
       subst (λ (n : ℕ). WordsInField p n row → isGood hadamardShape p n row ≡ true → (i j : ℕ) → i < n → j < n → getD row i 0 ≡ getD row j 0 → i ≡ j) (sym (power n o .is))
       (λ b. different-of p h (power n o .k) row b) below
 
-  pub good-regular : sum (numbers p) n (λ i. getD row i 0) ≡ 1 → isGood hadamardShape p n row ≡ regularBetween (numbers p) n (hadamard (numbers p) row) true 0 (n / 2)
+  pub good-regular : sum (numbers p) n (λ i. getD row i 0) ≡ 1 → isGood hadamardShape p n row ≡ regularBetween (numbers p) n (hadamard (numbers p) row) 1 0 (n / 2)
   good-regular one =
-      subst (λ (m : ℕ). WordsInField p m row → sum (numbers p) m (λ i. getD row i 0) ≡ 1 → isGood hadamardShape p m row ≡ regularBetween (numbers p) m (hadamard (numbers p) row) true 0 (2 ^ (power n o .k - 1)))
+      subst (λ (m : ℕ). WordsInField p m row → sum (numbers p) m (λ i. getD row i 0) ≡ 1 → isGood hadamardShape p m row ≡ regularBetween (numbers p) m (hadamard (numbers p) row) 1 0 (2 ^ (power n o .k - 1)))
       (sym (power n o .is)) (λ b. regular-of p h (power n o .k) row b (power n o .positive) (power n o .most)) below one
-      ∙ ap (regularBetween (numbers p) n (hadamard (numbers p) row) true 0) (sym (power n o .half))
+      ∙ ap (regularBetween (numbers p) n (hadamard (numbers p) row) 1 0) (sym (power n o .half))
 
   pub good-moved : (m : Move) → List·Memᴰ m (moves n) → isGood hadamardShape p n (moved n m row) ≡ isGood hadamardShape p n row
   good-moved =
@@ -125,11 +125,11 @@ module _ (p n : ℕ) (h : Modulus p) (o : SearchOrder n) (row : List ℕ) (below
 
 -- the test of the blocks depends on the entries alone
 pub regular-same : (p n : ℕ) → Modulus p → (f g : ℕ → ℕ → ℕ) → ((i j : ℕ) → i < n → j < n → f i j < 2 ^ degree p)
-    → ((i j : ℕ) → i < n → j < n → f i j ≡ g i j) → (least : Bool) (above most : ℕ)
-    → regularBetween (numbers p) n f least above most ≡ regularBetween (numbers p) n g least above most
-regular-same p n h f g below same least above most =
-    regular-carried p h n f (λ i j. lift p (f i j)) (λ i j a b. lift-number p (f i j) (below i j a b)) least above most
-    ∙ sym (regular-carried p h n g (λ i j. lift p (f i j)) (λ i j a b. lift-number p (f i j) (below i j a b) ∙ same i j a b) least above most)
+    → ((i j : ℕ) → i < n → j < n → f i j ≡ g i j) → (look above most : ℕ)
+    → regularBetween (numbers p) n f look above most ≡ regularBetween (numbers p) n g look above most
+regular-same p n h f g below same look above most =
+    regular-carried p h n f (λ i j. lift p (f i j)) (λ i j a b. lift-number p (f i j) (below i j a b)) look above most
+    ∙ sym (regular-carried p h n g (λ i j. lift p (f i j)) (λ i j a b. lift-number p (f i j) (below i j a b) ∙ same i j a b) look above most)
 
 -- ---- the depth of a row
 
@@ -145,20 +145,10 @@ row-depth-least p n row d h = lineDepth-least p n (λ j. getD row j 0) d h
 
 -- ---- the key
 
-module _ (p n : ℕ) (m : Move) (i : List·Memᴰ m (moves n)) (row : List ℕ) where
-  -- a move keeps the sum and the depth, as any permutation of the places does
-  pub sum-kept : sumOf p n (moved n m row) ≡ sumOf p n row
-  unfolding sumOf moved
-  sum-kept = elementCount-moved p n (from m) (from m) (moves-inverse n m i) row
-
-  pub depth-kept : depthOfRow p n (moved n m row) ≡ depthOfRow p n row
-  unfolding depthOfRow moved
-  depth-kept = depth-moved p n (from m) (from m) (moves-inverse n m i) row
-
-  -- and so the key
-  pub key-moved : keyOf p n (moved n m row) ≡ keyOf p n row
-  unfolding keyOf
-  key-moved = ap₂ (λ (s d : ℕ). s * suc (degree p * n) + d) sum-kept depth-kept
+-- a move keeps it, as any permutation of the places does
+pub key-moved : (p n : ℕ) (m : Move) → List·Memᴰ m (moves n) → (row : List ℕ) → keyOf p n (moved n m row) ≡ keyOf p n row
+unfolding moved
+key-moved p n m i row = key-permuted p n (from m) (from m) (moves-inverse n m i) row
 
 -- ---- the canonical rows
 

@@ -45,7 +45,7 @@ moves-ind Q four eight other n = go (eqb n 4) (eqb n 8) refl refl
     go false false e f = other n
 
 -- both of two tests pass
-and-split : (a b : Bool) → (a && b) ≡ true → (a ≡ true) × (b ≡ true)
+pub and-split : (a b : Bool) → (a && b) ≡ true → (a ≡ true) × (b ≡ true)
 and-split true b e = (refl, e)
 and-split false b e = absurd (false≢true e)
 

@@ -1,15 +1,18 @@
 -- The key of a row is its sum and its depth in one number: rows compare by it as by the sum, and by the depth among equal sums (`key-lt`, `key-le`,
--- `key-split`, `key-same`). Assumes nothing.
-use mathlib.Core.Path.{_≡_, sym, ap, _∙_}
+-- `key-split`, `key-same`); a permutation of the places keeps it (`key-permuted`). Assumes nothing.
+use mathlib.Core.Path.{_≡_, sym, ap, ap₂, _∙_}
 use mathlib.Core.Logic.{_⊎_, inl, inr, ⊎-elim}
 use mathlib.Core.List.{List}
 use Prim.Native.Nat.{ℕ, suc, _+_, _*_, _≤_, _<_}
 use native.Mathlib.Nat.{mul-le-mul-right, suc-mul, eq-or-lt-of-le}
 use native.Mathlib.Omega.{arith}
 use lib.ListN.{getD}
+use Rattle.algebra.specs.Places.{moved, Inverse}
 use Rattle.algebra.proofs.Sums.{le-or-lt}
 use Rattle.field.specs.Polynomial.{degree}
-use Rattle.matrix.proofs.Depths.{lineDepth-le}
+use Rattle.matrix.specs.Numbers.{numbers}
+use Rattle.matrix.proofs.Tallies.{elementCount-moved}
+use Rattle.matrix.proofs.Depths.{lineDepth-le, depth-moved}
 use Rattle.search.specs.Answer.{sumOf, depthOfRow, keyOf}
 
 -- ---- two numbers in one
@@ -82,3 +85,20 @@ module _ (p n : ℕ) where
       ⊎-elim (λ (m : depthOfRow p n s ≡ depthOfRow p n r). (sym (e .0), sym m))
       (λ m. let z : ⊥ = omega (arith, key-lt s r (inr (e .0, m))) in absurd z) (eq-or-lt-of-le (e .1))) h)
       (compare-pairs (sumOf p n r) (depthOfRow p n r) (sumOf p n s) (depthOfRow p n s))
+
+-- ---- a row with its places moved
+
+module _ (p n : ℕ) (σ ρ : ℕ → ℕ) (v : Inverse n σ ρ) (row : List ℕ) where
+  -- a permutation of the places keeps the sum and the depth
+  pub sum-permuted : sumOf p n (moved (numbers p) n σ row) ≡ sumOf p n row
+  unfolding sumOf
+  sum-permuted = elementCount-moved p n σ ρ v row
+
+  pub depth-permuted : depthOfRow p n (moved (numbers p) n σ row) ≡ depthOfRow p n row
+  unfolding depthOfRow
+  depth-permuted = depth-moved p n σ ρ v row
+
+  -- and so the key
+  pub key-permuted : keyOf p n (moved (numbers p) n σ row) ≡ keyOf p n row
+  unfolding keyOf
+  key-permuted = ap₂ (λ (s d : ℕ). s * suc (degree p * n) + d) sum-permuted depth-permuted

@@ -1,4 +1,4 @@
--- The tests of a search decide what document 01 says, and so each of the numbers 3 to 8 applies exactly if it is stated (`search-exactly`);
+-- The tests of a search decide what documents 01 and 02 say, and so each of the numbers 3 to 8 applies exactly if it is stated (`search-exactly`);
 -- the lowest number that applies is returned (`search-lowest`). Assumes nothing.
 use mathlib.Core.Path.{_≡_, refl, sym, ap}
 use mathlib.Core.Logic.{_≢_, _↔_, _⊎_, inl, inr, ⊎-elim}
@@ -11,12 +11,15 @@ use Rattle.refusal.specs.Refusals.{fault, Applies, LowestOf}
 use Rattle.refusal.proofs.Faults.{numbered, ascends, fault-here, fault-cases, lowest-after, lowest-same}
 use Rattle.refusal.proofs.Tests.{below-exactly, same-exactly, zero-exactly, not-exactly, or-exactly, and-exactly, neither-exactly}
 use Rattle.field.specs.Faults.{polynomialFaults, callFaults}
-use Rattle.field.specs.Stated.{SomeTooLarge}
+use Rattle.field.specs.Stated.{SomeTooLarge, Stated}
 use Rattle.field.proofs.Limits.{one-too-large, either-too-large, call-exactly}
+use Rattle.search.specs.declared.Family.{Family}
+use Rattle.search.specs.declared.Family.the-variants.{Hadamard, Circulant}
 use Rattle.search.specs.Lightest.{Best, nothing, found}
-use Rattle.search.specs.Shape.{hadamardShape}
-use Rattle.search.specs.Answer.{lightestRow, isWrongSearchOrder, isWrongSearchCount, someTooLarge, someRepeated, someBad, isNone, searchFaults, noRow, searchAnswer}
-use Rattle.search.specs.Stated.{WrongSearchCount, no-candidate, many-for-four, many-for-eight, Repeated, SearchStated, SearchStatedOrNone}
+use Rattle.search.specs.Shape.{shapeOf}
+use Rattle.search.specs.Answer.{lightestRow, isWrongSearchOrder, isWrongSearchCount, isWrongCirculantOrder, isWrongCirculantCount, isWrongOrderFor, isWrongCountFor}
+use Rattle.search.specs.Answer.{someTooLarge, someRepeated, someBad, isNone, searchFaults, noRow, searchAnswer}
+use Rattle.search.specs.Stated.{WrongSearchCount, no-candidate, many-for-four, many-for-eight, Repeated, StatedFor, OrNone}
 use Rattle.search.proofs.Rows.{member-mem, mem-at, getD-mem}
 
 -- ---- order and count
@@ -61,6 +64,14 @@ count-eight-exactly count = (λ e. to (search-count-exactly 8 count .0 e), λ h.
     to (no-candidate h) = inl h
     to (many-for-four four h) = let z : ⊥ = omega arith in absurd z
     to (many-for-eight eight h) = inr h
+
+pub circulant-order-exactly : (n : ℕ) → (isWrongCirculantOrder n ≡ true) ↔ ((n < 2) ⊎ (8 < n))
+unfolding isWrongCirculantOrder
+circulant-order-exactly n = or-exactly _ _ (below-exactly n 2) (below-exactly 8 n)
+
+pub circulant-count-exactly : (count : ℕ) → (isWrongCirculantCount count ≡ true) ↔ ((count < 1) ⊎ (8 < count))
+unfolding isWrongCirculantCount
+circulant-count-exactly count = or-exactly _ _ (zero-exactly count) (below-exactly 8 count)
 
 -- ---- candidates
 
@@ -110,36 +121,51 @@ is-none-exactly : (best : Best) → (isNone best ≡ true) ↔ (best ≡ nothing
 is-none-exactly nothing = (λ e. refl, λ e. refl)
 is-none-exactly (found row) = (λ e. absurd (false≢true e), λ e. ap isNone e)
 
-module _ (p n : ℕ) (candidates : List ℕ) where
-  -- what applies: one of the numbers that are stated, or 9 where there is no row
-  pub search-all-exactly : (best : Best) (k : ℕ) → Applies (searchFaults p n candidates best) k ↔ SearchStatedOrNone p n candidates best k
-  unfolding Applies searchFaults
-  search-all-exactly best k = (λ m. ⊎-elim (λ l. inl (call .0 l)) nine (List·Memᴰ·append-cases (callFaults p _ _ _ _) m), from)
-    where
-      call : Applies (callFaults p (isWrongSearchOrder n) (isWrongSearchCount n (length candidates)) (someTooLarge p candidates) (someBad candidates)) k
-          ↔ SearchStated p n candidates k
-      call =
-          call-exactly p (search-order-exactly n) (search-count-exactly n (length candidates)) (some-too-large-exactly p candidates)
-          (bad-exactly candidates) k
+-- a search for any family, whose tests of order and count decide what is said of them
+module _ (family : Family) (p n : ℕ) (candidates : List ℕ) {Order Count : Type 0} (order : (isWrongOrderFor family n ≡ true) ↔ Order)
+    (count : (isWrongCountFor family n (length candidates) ≡ true) ↔ Count) where
+  -- what is said of 3 to 8
+  abbrev Says : ℕ → Type 0
+  Says = Stated p Order Count (λ a. List·Memᴰ a candidates) (List·Memᴰ 0 candidates ⊎ Repeated candidates)
 
-      nine : List·Memᴰ (fault k true) (fault 9 (isNone best) ∷ []) → SearchStatedOrNone p n candidates best k
+  -- what applies: one of the numbers that are stated, or 9 where there is no row
+  all-exactly : (best : Best) (k : ℕ) → Applies (searchFaults family p n candidates best) k ↔ OrNone Says best k
+  unfolding Applies searchFaults
+  all-exactly best k = (λ m. ⊎-elim (λ l. inl (call .0 l)) nine (List·Memᴰ·append-cases (callFaults p _ _ _ _) m), from)
+    where
+      call : Applies (callFaults p (isWrongOrderFor family n) (isWrongCountFor family n (length candidates)) (someTooLarge p candidates) (someBad candidates)) k
+          ↔ Says k
+      call = call-exactly p order count (some-too-large-exactly p candidates) (bad-exactly candidates) k
+
+      nine : List·Memᴰ (fault k true) (fault 9 (isNone best) ∷ []) → OrNone Says best k
       nine = fault-cases 9 (λ e t. inr (e, is-none-exactly best .0 t)) (λ m. absurd (List·Memᴰ·not-nil m))
 
-      from : SearchStatedOrNone p n candidates best k → List·Memᴰ (fault k true) (searchFaults p n candidates best)
+      from : OrNone Says best k → List·Memᴰ (fault k true) (searchFaults family p n candidates best)
       from (inl s) = Memᴰ·append-left _ (call .1 s)
       from (inr (e, b)) = Memᴰ·append-right (callFaults p _ _ _ _) (rw e (fault-here 9 (is-none-exactly best .1 b)))
 
   -- the numbers up to 8
-  pub search-exactly : (best : Best) (k : ℕ) → k ≤ 8 → Applies (searchFaults p n candidates best) k ↔ SearchStated p n candidates k
-  search-exactly best k l =
-      let (to, from) = search-all-exactly best k in
+  to-eight-exactly : (best : Best) (k : ℕ) → k ≤ 8 → Applies (searchFaults family p n candidates best) k ↔ Says k
+  to-eight-exactly best k l =
+      let (to, from) = all-exactly best k in
       (λ m. ⊎-elim (λ s. s) (λ h. let z : ⊥ = omega (arith, h .0) in absurd z) (to m), λ s. from (inl s))
 
   -- what the contract yields: the lowest of them, 0 where none applies
-  pub search-lowest : LowestOf (SearchStatedOrNone p n candidates (lightestRow hadamardShape p n candidates)) (searchAnswer p n candidates .number)
+  lowest : LowestOf (OrNone Says (lightestRow (shapeOf family) p n candidates)) (searchAnswer family p n candidates .number)
   unfolding searchAnswer
-  search-lowest =
-      let best = lightestRow hadamardShape p n candidates in
-      let faults = searchFaults p n candidates best in
-      lowest-same (search-all-exactly best)
+  lowest =
+      let best = lightestRow (shapeOf family) p n candidates in
+      let faults = searchFaults family p n candidates best in
+      lowest-same (all-exactly best)
       (lowest-after noRow _ faults (unfold searchFaults polynomialFaults numbered in refl) (unfold searchFaults polynomialFaults ascends in refl))
+
+-- each family
+pub search-exactly : (family : Family) (p n : ℕ) (candidates : List ℕ) (best : Best) (k : ℕ) → k ≤ 8
+    → Applies (searchFaults family p n candidates best) k ↔ StatedFor family p n candidates k
+search-exactly Hadamard p n candidates = to-eight-exactly Hadamard p n candidates (search-order-exactly n) (search-count-exactly n (length candidates))
+search-exactly Circulant p n candidates = to-eight-exactly Circulant p n candidates (circulant-order-exactly n) (circulant-count-exactly (length candidates))
+
+pub search-lowest : (family : Family) (p n : ℕ) (candidates : List ℕ)
+    → LowestOf (OrNone (StatedFor family p n candidates) (lightestRow (shapeOf family) p n candidates)) (searchAnswer family p n candidates .number)
+search-lowest Hadamard p n candidates = lowest Hadamard p n candidates (search-order-exactly n) (search-count-exactly n (length candidates))
+search-lowest Circulant p n candidates = lowest Circulant p n candidates (circulant-order-exactly n) (circulant-count-exactly (length candidates))

@@ -1,14 +1,14 @@
 -- The test of the planes of four indices that an entry completes: what the code tests of one plane, what it depends on, and what it
 -- says of a row. Assumes nothing.
-use mathlib.Core.Path.{_≡_, refl, sym, ap, _∙_}
+use mathlib.Core.Path.{_≡_, refl, sym, _∙_}
 use mathlib.Core.Bool.{Bool, true, false, true≢false}
-use mathlib.Core.List.{List, [], _∷_, _++_}
+use mathlib.Core.List.{List}
 use Prim.Native.Nat.{ℕ, suc, _≤_, _<_}
 use native.Mathlib.Decide.{decLt}
 use native.Mathlib.Omega.{arith}
 use lib.Dec.{eqb, leb}
-use lib.ListN.{length, getD, take, set}
-use lib.Seq.{take-suc, take-suc-set, getD-take}
+use lib.ListN.{getD, take}
+use lib.Seq.{getD-take}
 use borrow.Author.Tests.{eqb-true, eqb-false, le-leb, lt-leb, eq-eqb, ne-eqb}
 use Rattle.field.specs.Polynomial.{_⊕_, product}
 use Rattle.field.specs.Steps.{everyBelow}
@@ -83,15 +83,6 @@ pub planes-front : (p n : ℕ) (row : List ℕ) (d : ℕ) → planesPass p n (ta
 unfolding planesPass
 planes-front p n row d =
     every-same d _ _ (λ b l. every-same b _ _ (λ a m. plane-same p n (take (suc d) row) row d b a m l (λ j k. getD-take (suc d) row j 0 (omega arith))))
-
-module _ (p n : ℕ) (row : List ℕ) (d : ℕ) (l : d < length row) where
-  -- the prefix and a letter behind it, of an array in which the letter is stored
-  pub planes-stored : (a : ℕ) → planesPass p n (take d row ++ a ∷ []) d ≡ planesPass p n (set row d a) d
-  planes-stored a = ap (λ r. planesPass p n r d) (sym (take-suc-set row d a l)) ∙ planes-front p n (set row d a) d
-
-  -- of an array that has it
-  pub planes-own : planesPass p n (take d row ++ getD row d 0 ∷ []) d ≡ planesPass p n row d
-  planes-own = ap (λ r. planesPass p n r d) (sym (take-suc row d 0 l)) ∙ planes-front p n row d
 
 module _ (p n : ℕ) (row : List ℕ) (d : ℕ) where
   -- where they pass, each of them does

@@ -31,7 +31,7 @@ use Rattle.search.specs.declared.Best.{Best as Kept}
 use Rattle.search.specs.Lightest.{Best, nothing, found, lighter, keep, keepAll, member}
 use Rattle.search.specs.Shape.{isGood}
 use Rattle.search.specs.Answer.{sumOf, depthOfRow, keyOf}
-use Rattle.search.specs.Steps.Prefix.{kept, Cuts, passes, AllStand, tried, bestAs, isHeavier, isHeavy, Reached, Whole, AtPrefix, NextLetter}
+use Rattle.search.specs.Steps.Prefix.{kept, Cuts, mayStand, passes, AllStand, tried, bestAs, isHeavier, isHeavy, Reached, Whole, AtPrefix, NextLetter}
 use Rattle.search.specs.Steps.Walk.{completions, branches}
 use Rattle.search.proofs.LetterCounts.{table-knows, table-count, least-le, least-most}
 use Rattle.search.proofs.Rows.{member-mem, mem-words, getD-mem}
@@ -245,7 +245,7 @@ module _ {cuts : Cuts} {p n : ℕ} {letters counts : List ℕ} {least level : �
     stays e = at .holds ∙ ap (kept p n) (sym e)
 
     -- the letter may not stand there
-    pub branch-left : cuts .mayStand (take level row) a ≡ false → b ≡ kept p n kept-after
+    pub branch-left : mayStand cuts (take level row) a ≡ false → b ≡ kept p n kept-after
     branch-left e =
         stays (skip-stand cuts p n letters (take level row) a (n - (level + 1)) (at .reached .over) (nx .letter) places-left (bestAs n b) e)
 
@@ -321,13 +321,14 @@ module _ {cuts : Cuts} {p n : ℕ} {letters counts : List ℕ} {least level : �
     pub branch-heavier : isHeavier b bound ≡ true → b ≡ kept p n kept-after
     branch-heavier e = branch-heavy (heavier-heavy b bound deep e)
 
-    module _ (may : cuts .mayStand (take level row) a ≡ true) where
+    module _ (may : mayStand cuts (take level row) a ≡ true) where
       stands-next : AllStand cuts (level + 1) longer
       stands-next d l = elim (decLt d level) [
-        | yes h ↦ ap₂ (cuts .mayStand) (take-set-le d row level a (omega arith)) (entry-before d h) ∙ at .reached .stands d h
+        | yes h ↦ ap₂ (mayStand cuts) (take-set-le d row level a (omega arith)) (entry-before d h) ∙ at .reached .stands d h
         | no h ↦
-            subst⁻¹ (λ (d : ℕ). cuts .mayStand (take d longer) (getD longer d 0) ≡ true) (omega arith)
-            (ap₂ (cuts .mayStand) before-here entry-here ∙ may)
+            let here : d ≡ level = omega arith in
+            subst⁻¹ (λ (d : ℕ). mayStand cuts (take d longer) (getD longer d 0) ≡ true) here
+            (ap₂ (mayStand cuts) before-here entry-here ∙ may)
       ]
 
       reached-next : Reached cuts p n letters (level + 1) longer (count + getD counts a 0)
@@ -374,7 +375,7 @@ module _ {cuts : Cuts} {p n : ℕ} {letters counts : List ℕ} {least level : �
         unfolding passes
         passes-next =
             ap₂ _&&_
-            (each-every n (λ d. cuts .mayStand (take d (take n longer)) (getD (take n longer) d 0)) (stands-front cuts n longer (whole-next .stands)))
+            (each-every n (λ d. mayStand cuts (take d (take n longer)) (getD (take n longer) d 0)) (stands-front cuts n longer (whole-next .stands)))
             (ap₂ (cuts .mayEnd) (take-take (n - 1) n longer (omega arith)) (getD-take n longer (n - 1) 0 (omega arith)) ∙ whole-next .ends)
 
         -- where it is lighter, or as heavy and shallower, it is kept if it is good
@@ -410,9 +411,10 @@ module _ {cuts : Cuts} {p n : ℕ} {letters counts : List ℕ} {least level : �
   pub upto-none : b ≡ kept p n (kept-upto 0)
   upto-none = at .holds ∙ ap (kept p n) (sym (branches-zero (tried cuts p n) (keyOf p n) letters (take level row) (n - (level + 1)) (bestAs n b) letters))
 
-  -- a letter that is not the last of the row
-  pub upto-letter : (level + 1 ≡ n → ⊥) → (i : ℕ) → i < length letters → NextLetter cuts n letters level row (getD letters i 0)
-  upto-letter e i l = record { letter = getD-mem letters i 0 l; last = λ q. absurd (e q) }
+  -- a letter of the list, where each may be the last if the row ends with it
+  pub upto-letter : ((a : ℕ) → level + 1 ≡ n → cuts .mayEnd (take level row) a ≡ true) → (i : ℕ) → i < length letters
+      → NextLetter cuts n letters level row (getD letters i 0)
+  upto-letter any i l = record { letter = getD-mem letters i 0 l; last = any (getD letters i 0) }
 
   -- the row kept after i letters, in a struct
   module _ (long : length (b .row) ≡ 8) (i : ℕ) (b′ : Kept) (k : b′ ≡ kept p n (kept-upto i)) where

@@ -3,13 +3,13 @@
 -- Assumes nothing.
 use mathlib.Core.Path.{_≡_, refl, sym, ap, ap₂, subst, _∙_}
 use mathlib.Core.Logic.{⊎-elim}
-use mathlib.Core.Bool.{Bool, true, false, true≢false}
+use mathlib.Core.Bool.{Bool, true, false, _&&_, and-false, true≢false}
 use mathlib.Core.List.{List, [], _∷_, _++_, List·Memᴰ, List·Memᴰ·head, List·Memᴰ·tail, List·Memᴰ·not-nil, List·Memᴰ·cases-cons, List·Memᴰ·append-cases, List·Memᴰ·eq-of-singleton, Memᴰ·cast}
-use Prim.Native.Nat.{ℕ, _+_, _-_, _*_, _^_, _≤_, _<_}
+use Prim.Native.Nat.{ℕ, suc, _+_, _-_, _*_, _^_, _≤_, _<_}
 use native.Mathlib.Nat.{le-refl}
 use native.Mathlib.Omega.{arith}
-use lib.ListN.{length, getD, take, length-append, List·getD-append}
-use lib.Seq.{append-snoc, take-append-seam, take-take, getD-append-seam, getD-take}
+use lib.ListN.{length, getD, take, set, length-append, List·getD-append}
+use lib.Seq.{append-snoc, take-append-seam, take-take, take-suc, take-suc-set, length-take-le, getD-append-seam, getD-take}
 use borrow.Author.Tests.{le-ltb}
 use Rattle.algebra.proofs.Involution.{and-left, and-right}
 use Rattle.field.specs.Polynomial.{Modulus, degree, xorCount}
@@ -23,7 +23,7 @@ use Rattle.search.specs.Lightest.{Best, found, lighter, keep, keepAll, m
 use Rattle.search.specs.Shape.{isGood}
 use Rattle.search.specs.Answer.{sumOf, depthOfRow, keyOf}
 use Rattle.search.specs.Steps.Walk.{completions}
-use Rattle.search.specs.Steps.Prefix.{Cuts, passes, AllStand, tried}
+use Rattle.search.specs.Steps.Prefix.{Cuts, mayStand, passes, AllStand, tried}
 use Rattle.search.proofs.Rows.{mem-words, member-mem, getD-mem, not-passed}
 use Rattle.search.proofs.Lightest.{keep-cases}
 use Rattle.search.proofs.Keys.{LessOrSame, pair-more, key-le}
@@ -73,11 +73,54 @@ element-least : (p least : ℕ) (row : ℕ → ℕ) (d k : ℕ) → ((j : ℕ) �
 unfolding elementCount
 element-least p least row d k h = total-least (λ j. xorCount p (row j)) least d k h
 
+-- ---- a letter that may stand
+
+-- the test of the blocks that an entry completes looks at no entry behind it
+abbrev pub LooksBack : Cuts → Type 0
+LooksBack cuts = (row : List ℕ) (d : ℕ) → cuts .blocksPass (take (suc d) row) d ≡ cuts .blocksPass row d
+
+-- a letter that does not come next may not stand
+pub stand-not-next : (cuts : Cuts) (q : List ℕ) (a : ℕ) → cuts .isNext q a ≡ false → mayStand cuts q a ≡ false
+unfolding mayStand
+stand-not-next cuts q a e = rw e
+
+module _ (cuts : Cuts) (back : LooksBack cuts) (row : List ℕ) (d : ℕ) (fits : d < length row) where
+  -- the test of a letter, of the array in which it is stored
+  stand-stored : (a : ℕ) → mayStand cuts (take d row) a ≡ (cuts .isNext (take d row) a && cuts .blocksPass (set row d a) d)
+  unfolding mayStand
+  stand-stored a =
+      ap (λ (m : ℕ). cuts .isNext (take d row) a && cuts .blocksPass (take d row ++ a ∷ []) m) (length-take-le d row (omega arith))
+      ∙ ap (λ t. cuts .isNext (take d row) a && t) (ap (λ r. cuts .blocksPass r d) (sym (take-suc-set row d a fits)) ∙ back (set row d a) d)
+
+  -- a block does not pass
+  pub stand-not-blocks : (a : ℕ) → cuts .blocksPass (set row d a) d ≡ false → mayStand cuts (take d row) a ≡ false
+  stand-not-blocks a e = stand-stored a ∙ (rw (e, and-false))
+
+  -- it may stand
+  pub stand-both : (a : ℕ) → cuts .isNext (take d row) a ≡ true → cuts .blocksPass (set row d a) d ≡ true → mayStand cuts (take d row) a ≡ true
+  stand-both a e f = stand-stored a ∙ (rw (e, f))
+
+  -- the test of an entry
+  pub stand-own : mayStand cuts (take d row) (getD row d 0) ≡ (cuts .isNext (take d row) (getD row d 0) && cuts .blocksPass row d)
+  unfolding mayStand
+  stand-own =
+      ap (λ (m : ℕ). cuts .isNext (take d row) (getD row d 0) && cuts .blocksPass (take d row ++ getD row d 0 ∷ []) m) (length-take-le d row (omega arith))
+      ∙ ap (λ t. cuts .isNext (take d row) (getD row d 0) && t) (ap (λ r. cuts .blocksPass r d) (sym (take-suc row d 0 fits)) ∙ back row d)
+
+module _ (cuts : Cuts) (back : LooksBack cuts) (n : ℕ) (row : List ℕ) (fits : n ≤ length row) (all : AllStand cuts n row) where
+  -- where each entry may stand, each comes next by the order
+  pub all-next : (d : ℕ) → d < n → cuts .isNext (take d row) (getD row d 0) ≡ true
+  all-next d l = and-left _ (cuts .blocksPass row d) (sym (stand-own cuts back row d (omega arith)) ∙ all d l)
+
+  -- and its blocks pass
+  pub all-blocks : (d : ℕ) → d < n → cuts .blocksPass row d ≡ true
+  all-blocks d l = and-right (cuts .isNext (take d row) (getD row d 0)) _ (sym (stand-own cuts back row d (omega arith)) ∙ all d l)
+
 -- ---- a row that is tried
 
 -- the first entries of an array, as a row, may stand as they do
 pub stands-front : (cuts : Cuts) (n : ℕ) (row : List ℕ) → AllStand cuts n row → AllStand cuts n (take n row)
-stands-front cuts n row all d l = ap₂ (cuts .mayStand) (take-take d n row (omega arith)) (getD-take n row d 0 l) ∙ all d l
+stands-front cuts n row all d l = ap₂ (mayStand cuts) (take-take d n row (omega arith)) (getD-take n row d 0 l) ∙ all d l
 
 module _ (cuts : Cuts) (p n : ℕ) (r : List ℕ) (t : tried cuts p n r ≡ true) where
   pub tried-passes : passes cuts n r ≡ true
@@ -86,11 +129,11 @@ module _ (cuts : Cuts) (p n : ℕ) (r : List ℕ) (t : tried cuts p n r ≡ true
 
   pub tried-stands : AllStand cuts n r
   unfolding passes
-  tried-stands d l = every-each n (λ d. cuts .mayStand (take d r) (getD r d 0)) (and-left _ (cuts .mayEnd (take (n - 1) r) (getD r (n - 1) 0)) tried-passes) d l
+  tried-stands d l = every-each n (λ d. mayStand cuts (take d r) (getD r d 0)) (and-left _ (cuts .mayEnd (take (n - 1) r) (getD r (n - 1) 0)) tried-passes) d l
 
   pub tried-ends : cuts .mayEnd (take (n - 1) r) (getD r (n - 1) 0) ≡ true
   unfolding passes
-  tried-ends = and-right (everyBelow n (λ d. cuts .mayStand (take d r) (getD r d 0))) _ tried-passes
+  tried-ends = and-right (everyBelow n (λ d. mayStand cuts (take d r) (getD r d 0))) _ tried-passes
 
 -- ---- the letter a behind the prefix q, with k letters to come
 
@@ -111,12 +154,12 @@ module _ (cuts : Cuts) (p n : ℕ) (letters q : List ℕ) (a k : ℕ) (over : (b
       )
 
   -- it may not stand there: no row behind it is tried
-  pub skip-stand : (best : Best) → cuts .mayStand q a ≡ false
+  pub skip-stand : (best : Best) → mayStand cuts q a ≡ false
       → keepAll (tried cuts p n) (keyOf p n) best (completions letters (q ++ a ∷ []) k) ≡ best
   skip-stand best e =
       skip-none (tried cuts p n) (keyOf p n) best _ λ r i.
       let (long, front, here, in-letters) = row-of r i in
-      not-passed (tried cuts p n r) (λ t. true≢false (sym (tried-stands cuts p n r t (length q) (omega arith)) ∙ ap₂ (cuts .mayStand) front here ∙ e))
+      not-passed (tried cuts p n r) (λ t. true≢false (sym (tried-stands cuts p n r t (length q) (omega arith)) ∙ ap₂ (mayStand cuts) front here ∙ e))
 
   -- the entries of the prefix and the letter, which every row behind them begins with
   front-at : (r : List ℕ) → List·Memᴰ r (completions letters (q ++ a ∷ []) k) → (j : ℕ) → j < length q + 1 → getD (q ++ a ∷ []) j 0 ≡ getD r j 0

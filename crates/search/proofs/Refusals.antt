@@ -10,16 +10,17 @@ use native.Mathlib.Omega.{arith}
 use lib.Dec.{eqb, ltb}
 use lib.ListN.{length, getD, take, drop, length-drop, drop-of-length-le}
 use lib.Seq.{drop-cons, take-all}
-use borrow.Author.Tests.{eqb-true, ne-eqb, le-leb, lt-leb}
+use borrow.Author.Tests.{eqb-true, ne-eqb, le-leb, lt-leb, lt-ltb, le-ltb, ltb-false}
 use Rattle.refusal.specs.Refusals.{fault, Answer, answer, answerAfter}
 use Rattle.refusal.specs.declared.Refusal.the-variants.{NoRow}
 use Rattle.refusal.proofs.Faults.{after-taken, after-left, after-empty}
 use Rattle.field.specs.Polynomial.{degree}
 use Rattle.field.specs.Faults.{isTooLarge}
 use Rattle.matrix.specs.Counts.{elementCount}
+use Rattle.matrix.proofs.CallFaults.{or-none}
 use Rattle.search.specs.declared.Best.{Best as Kept}
 use Rattle.search.specs.Lightest.{Best, member}
-use Rattle.search.specs.Answer.{sumOf, isWrongSearchOrder, isWrongSearchCount, someTooLarge, someRepeated, someBad, isNone, RowFound, noRow, rowFound}
+use Rattle.search.specs.Answer.{sumOf, isWrongSearchOrder, isWrongSearchCount, isWrongCirculantOrder, isWrongCirculantCount, someTooLarge, someRepeated, someBad, isNone, RowFound, noRow, rowFound}
 use Rattle.search.specs.Steps.Prefix.{kept, bestAs}
 use Rattle.search.proofs.Prefixes.{count-take, best-found, best-none}
 
@@ -103,6 +104,26 @@ order-of n e = go (eqb n 4) (eqb n 8) refl refl e
     go true b p q f = inl (eqb-true n 4 p)
     go false true p q f = inr (eqb-true n 8 q)
     go false false p q f = absurd (true≢false f)
+
+pub circulant-order-small : (n : ℕ) → n < 2 → true ≡ isWrongCirculantOrder n
+unfolding isWrongCirculantOrder
+circulant-order-small n l = rw (lt-ltb n 2 l)
+
+pub circulant-order-other : (n : ℕ) → 2 ≤ n → ltb 8 n ≡ isWrongCirculantOrder n
+unfolding isWrongCirculantOrder
+circulant-order-other n l = rw (le-ltb n 2 l)
+
+pub circulant-order-of : (n : ℕ) → isWrongCirculantOrder n ≡ false → (2 ≤ n) × (n ≤ 8)
+unfolding isWrongCirculantOrder
+circulant-order-of n e = let (low, high) = or-none (ltb n 2) (ltb 8 n) e in (ltb-false n 2 low, ltb-false 8 n high)
+
+pub circulant-count-zero : (count : ℕ) → count ≡ 0 → true ≡ isWrongCirculantCount count
+unfolding isWrongCirculantCount
+circulant-count-zero count e = rw e refl
+
+pub circulant-count-other : (count : ℕ) → (count ≡ 0 → ⊥) → ltb 8 count ≡ isWrongCirculantCount count
+unfolding isWrongCirculantCount
+circulant-count-other count e = rw (ne-eqb count 0 e)
 
 pub count-zero : (n count : ℕ) → count ≡ 0 → true ≡ isWrongSearchCount n count
 unfolding isWrongSearchCount

@@ -14,7 +14,9 @@ use Rattle.matrix.specs.Counts.{elementCount}
 use Rattle.matrix.specs.Depths.{lineDepth}
 use Rattle.search.specs.declared.SearchResult.{SearchResult}
 use Rattle.search.specs.Lightest.{Best, nothing, found, member, lightest, rowsOver}
-use Rattle.search.specs.Shape.{Shape, isGood, hadamardShape}
+use Rattle.search.specs.declared.Family.{Family}
+use Rattle.search.specs.declared.Family.the-variants.{Hadamard, Circulant}
+use Rattle.search.specs.Shape.{Shape, isGood, shapeOf}
 
 -- what is printed, and compared first: the sum of the XOR counts of the row's elements
 unfoldable pub sumOf : ℕ → ℕ → List ℕ → ℕ
@@ -34,13 +36,30 @@ lightestRow shape p n candidates = lightest (isGood shape p n) (keyOf p n) (rows
 
 -- ---- the call
 
--- 5: the order of a search is 4 or 8
+-- 5: the order of a search for a Hadamard matrix is 4 or 8
 unfoldable pub isWrongSearchOrder : ℕ → Bool
 isWrongSearchOrder n = not (eqb n 4 || eqb n 8)
 
 -- 6: 1 to 255 candidates for order 4, 1 to 16 for order 8
 unfoldable pub isWrongSearchCount : ℕ → ℕ → Bool
 isWrongSearchCount n count = eqb count 0 || (eqb n 4 && ltb 255 count) || (eqb n 8 && ltb 16 count)
+
+-- 5: the order of a search for a circulant matrix is 2 to 8
+unfoldable pub isWrongCirculantOrder : ℕ → Bool
+isWrongCirculantOrder n = ltb n 2 || ltb 8 n
+
+-- 6: 1 to 8 candidates, whatever the order
+unfoldable pub isWrongCirculantCount : ℕ → Bool
+isWrongCirculantCount count = eqb count 0 || ltb 8 count
+
+-- 5 and 6 of a search, by the family of its matrices
+abbrev pub isWrongOrderFor : Family → ℕ → Bool
+isWrongOrderFor Hadamard n = isWrongSearchOrder n
+isWrongOrderFor Circulant n = isWrongCirculantOrder n
+
+abbrev pub isWrongCountFor : Family → ℕ → ℕ → Bool
+isWrongCountFor Hadamard n count = isWrongSearchCount n count
+isWrongCountFor Circulant n count = isWrongCirculantCount count
 
 -- 7: some value is 2^m or more
 unfoldable pub someTooLarge : ℕ → List ℕ → Bool
@@ -62,9 +81,9 @@ isNone nothing = true
 isNone (found row) = false
 
 -- the faults of a search whose lightest row this is, in the order in which they are looked at
-unfoldable pub searchFaults : ℕ → ℕ → List ℕ → Best → List Fault
-searchFaults p n candidates best =
-    callFaults p (isWrongSearchOrder n) (isWrongSearchCount n (length candidates)) (someTooLarge p candidates) (someBad candidates)
+unfoldable pub searchFaults : Family → ℕ → ℕ → List ℕ → Best → List Fault
+searchFaults family p n candidates best =
+    callFaults p (isWrongOrderFor family n) (isWrongCountFor family n (length candidates)) (someTooLarge p candidates) (someBad candidates)
     ++ fault 9 (isNone best)
     ∷ []
 
@@ -80,11 +99,11 @@ abbrev pub rowFound : ℕ → ℕ → Best → RowFound
 rowFound p n nothing = noRow
 rowFound p n (found row) = record { sum = sumOf p n row; row = row ++ replicate (8 - n) 0 }
 
--- what a search of polynomial p and order n over the candidates answers: the first fault, or the lightest row
-unfoldable pub searchAnswer : ℕ → ℕ → List ℕ → Answer RowFound
-searchAnswer p n candidates =
-    let best = lightestRow hadamardShape p n candidates in
-    answerAfter noRow (searchFaults p n candidates best) (rowFound p n best)
+-- what a search for matrices of a family with polynomial p and order n over the candidates answers: the first fault, or the lightest row
+unfoldable pub searchAnswer : Family → ℕ → ℕ → List ℕ → Answer RowFound
+searchAnswer family p n candidates =
+    let best = lightestRow (shapeOf family) p n candidates in
+    answerAfter noRow (searchFaults family p n candidates best) (rowFound p n best)
 
 -- ---- what the struct says
 

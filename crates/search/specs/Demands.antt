@@ -1,13 +1,15 @@
--- Demand 3, in the customer's words. Assumes nothing.
+-- Demand 3, and what request Six asks of circulant rows, in the customer's words. Assumes nothing.
 use mathlib.Core.Path.{_≡_}
 use mathlib.Core.Logic.{_≢_}
 use mathlib.Core.Bool.{true}
 use mathlib.Core.List.{List, List·Memᴰ}
 use Prim.Native.Nat.{ℕ, suc, _<_}
 use lib.ListN.{length, getD}
-use Rattle.algebra.specs.Matrix.{hadamard, branchNumber, isInvolution}
+use Rattle.algebra.specs.Matrix.{hadamard, circulant, branchNumber, isInvolution}
 use Rattle.matrix.specs.Numbers.{numbers, elements}
 use Rattle.matrix.specs.Counts.{rowCount}
+use Rattle.search.specs.declared.Family.{Family}
+use Rattle.search.specs.declared.Family.the-variants.{Hadamard, Circulant}
 use Rattle.search.specs.Lightest.{Earlier}
 use Rattle.search.specs.Answer.{depthOfRow}
 
@@ -34,6 +36,18 @@ pub record Both (p n : ℕ) (candidates row : List ℕ) : Type 0 where
   pub involution : isInvolution (numbers p) (elements p) n (hadamard (numbers p) row) ≡ true
   pub branch : branchNumber (numbers p) (elements p) n (hadamard (numbers p) row) ≡ suc n
 
--- the row demanded: a row with both properties that is before every other row with both
-abbrev pub Demanded : ℕ → ℕ → List ℕ → List ℕ → Type 0
-Demanded p n candidates row = FirstOf (Both p n candidates) p n row
+-- a row over the brief's elements whose circulant matrix is MDS: n entries, each of them a candidate, which may stand several times; its
+-- circulant matrix has branch number order plus one
+pub record CirculantMds (p n : ℕ) (candidates row : List ℕ) : Type 0 where
+  pub entries : length row ≡ n
+  pub over : (a : ℕ) → List·Memᴰ a row → List·Memᴰ a candidates
+  pub branch : branchNumber (numbers p) (elements p) n (circulant (numbers p) n row) ≡ suc n
+
+-- what a search asks of a row, by the family of its matrices
+abbrev pub Asks : Family → ℕ → ℕ → List ℕ → List ℕ → Type 0
+Asks Hadamard p n candidates row = Both p n candidates row
+Asks Circulant p n candidates row = CirculantMds p n candidates row
+
+-- the row demanded: a row with what is asked that is before every other row with it
+abbrev pub Demanded : Family → ℕ → ℕ → List ℕ → List ℕ → Type 0
+Demanded family p n candidates row = FirstOf (Asks family p n candidates) p n row

@@ -1,12 +1,14 @@
 -- The shape of a matrix that a row decides: where the row's elements stand in it, and when the row is good.
 -- Assumes nothing.
-use mathlib.Core.Bool.{Bool, true, not, _&&_, _||_}
+use mathlib.Core.Bool.{Bool, true, false, not, _&&_, _||_}
 use mathlib.Core.List.{List}
-use Prim.Native.Nat.{ℕ}
+use Prim.Native.Nat.{ℕ, _+_, _-_, _%_}
 use lib.Bits.{bitXor}
 use lib.ListN.{getD}
 use Rattle.algebra.specs.Matrix.{isMds, isInvolution}
 use Rattle.matrix.specs.Numbers.{numbers, elements}
+use Rattle.search.specs.declared.Family.{Family}
+use Rattle.search.specs.declared.Family.the-variants.{Hadamard, Circulant}
 
 -- for order, line and column the place of the row's element that stands there; and whether the matrix has to be an involution
 pub record Shape : Type 0 where
@@ -26,3 +28,12 @@ isGood shape p n row =
 -- Hadamard matrices: the row's element at (i exclusive or j) at line i, column j; involutions
 unfoldable pub hadamardShape : Shape
 hadamardShape = record { place = λ n i j. bitXor i j; involutory = true }
+
+-- circulant matrices: the row's element at (j − i) modulo n at line i, column j; they need not be involutions
+unfoldable pub circulantShape : Shape
+circulantShape = record { place = λ n i j. (j + (n - i)) % n; involutory = false }
+
+-- the shape that the code's enum names
+abbrev pub shapeOf : Family → Shape
+shapeOf Hadamard = hadamardShape
+shapeOf Circulant = circulantShape

@@ -4,3 +4,5 @@ pub mod Walk
 pub mod Prefix
 pub mod IndexMaps
 pub mod Hadamard
+pub mod Circulant
+pub mod Families

@@ -3,11 +3,12 @@
 ghost use mathlib.Core.Path.{_≡_};
 ghost use Rattle.field.specs.Polynomial.{Modulus};
 ghost use Rattle.search.specs.Lightest.{member};
-ghost use Rattle.search.specs.Answer.{isWrongSearchOrder, isWrongSearchCount, someTooLarge, someRepeated, someBad};
+ghost use Rattle.search.specs.Answer.{isWrongSearchOrder, isWrongSearchCount, isWrongCirculantOrder, isWrongCirculantCount, isWrongOrderFor, isWrongCountFor, someTooLarge, someRepeated, someBad};
+use crate::Family;
 use crate::letters;
 
 // Whether the order is neither 4 nor 8.
-pub fn is_wrong_order(n: u32) -> bool
+fn is_wrong_hadamard_order(n: u32) -> bool
     ensures { λ r. ⌜ r ≡ isWrongSearchOrder n ⌝ }
 {
     if n == 4 {
@@ -17,7 +18,7 @@ pub fn is_wrong_order(n: u32) -> bool
 }
 
 // Whether the count of candidates is not allowed: 1 to 255 at order 4, 1 to 16 at order 8.
-pub fn is_wrong_count(n: u32, count: usize) -> bool
+fn is_wrong_hadamard_count(n: u32, count: usize) -> bool
     ensures { λ r. ⌜ r ≡ isWrongSearchCount n count ⌝ }
 {
     if count == 0 {
@@ -30,6 +31,46 @@ pub fn is_wrong_count(n: u32, count: usize) -> bool
         return 16 < count;
     }
     false
+}
+
+// Whether the order is not from 2 to 8.
+fn is_wrong_circulant_order(n: u32) -> bool
+    ensures { λ r. ⌜ r ≡ isWrongCirculantOrder n ⌝ }
+{
+    if n < 2 {
+        return true;
+    }
+    8 < n
+}
+
+// Whether the count of candidates is not from 1 to 8.
+fn is_wrong_circulant_count(count: usize) -> bool
+    ensures { λ r. ⌜ r ≡ isWrongCirculantCount count ⌝ }
+{
+    if count == 0 {
+        return true;
+    }
+    8 < count
+}
+
+// Whether the order is not allowed.
+pub fn is_wrong_order(family: Family, n: u32) -> bool
+    ensures { λ r. ⌜ r ≡ isWrongOrderFor family n ⌝ }
+{
+    match family {
+        Family::Hadamard => is_wrong_hadamard_order(n),
+        Family::Circulant => is_wrong_circulant_order(n),
+    }
+}
+
+// Whether the count of candidates is not allowed at this order.
+pub fn is_wrong_count(family: Family, n: u32, count: usize) -> bool
+    ensures { λ r. ⌜ r ≡ isWrongCountFor family n count ⌝ }
+{
+    match family {
+        Family::Hadamard => is_wrong_hadamard_count(n, count),
+        Family::Circulant => is_wrong_circulant_count(count),
+    }
 }
 
 // Whether some value is 2^m or more.

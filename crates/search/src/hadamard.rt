@@ -9,7 +9,8 @@ ghost use Rattle.field.specs.Polynomial.{Modulus, _⊕_, Products};
 ghost use Rattle.field.specs.Steps.{everyBelow};
 ghost use Rattle.matrix.specs.Numbers.{WordsInField};
 ghost use Rattle.search.specs.Shape.{hadamardShape, isGood};
-ghost use Rattle.search.specs.Steps.Hadamard.{SearchOrder, isNext, planePasses, planesPass, lastLetter, hadamardCuts};
+ghost use Rattle.search.specs.Steps.Hadamard.{SearchOrder, isNext, planePasses, planesPass, lastLetter};
+ghost use Rattle.search.specs.Steps.Families.{hadamardCuts};
 ghost use Rattle.search.specs.Steps.Prefix.{AllStand};
 
 // At order 4 and 8 the entry at place d is larger than that at place BEFORE[d], from d = 1 on.
@@ -117,5 +118,5 @@ pub fn is_good(p: u16, products: &[u8; 65536], n: usize, row: [u8; 8]) -> bool
     ensures { λ r. ⌜ r ≡ isGood hadamardShape p n (take n row) ⌝ }
 {
     let m = matrix::multiply::hadamard_matrix(row, n);
-    matrix::block::regular_between(p, products, m, n, true, 2, n / 2)
+    matrix::block::regular_between(p, products, m, n, 1, 2, n / 2)
 }

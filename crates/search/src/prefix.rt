@@ -9,12 +9,14 @@ ghost use Rattle.field.specs.Polynomial.{Modulus, Products};
 ghost use Rattle.matrix.specs.Numbers.{WordsInField};
 ghost use Rattle.matrix.specs.Steps.Figures.{onesTable, CountsOf, leastDepth};
 ghost use Rattle.search.specs.Lightest.{found, keepAll};
-ghost use Rattle.search.specs.Shape.{hadamardShape, isGood};
+ghost use Rattle.search.specs.Shape.{shapeOf, isGood};
 ghost use Rattle.search.specs.Answer.{keyOf};
 ghost use Rattle.search.specs.Steps.Prefix.{kept, bestAs, isHeavier, isHeavy, tried, Whole, AtPrefix, NextLetter};
 ghost use Rattle.search.specs.Steps.Walk.{completions};
-ghost use Rattle.search.specs.Steps.Hadamard.{isNext, hadamardCuts};
+ghost use Rattle.search.specs.Steps.Families.{isNextOf, cutsOf};
 use crate::Best;
+use crate::Family;
+use crate::cuts;
 use crate::hadamard;
 
 // Whether a row that counts at least the bound is heavier than the row kept.
@@ -50,6 +52,7 @@ fn is_heavy(
 
 // The row with what its figure tells, where it is good; else the row kept before.
 fn finish(
+    family: Family,
     p: u16,
     products: &[u8; 65536],
     n: usize,
@@ -58,10 +61,10 @@ fn finish(
     row: [u8; 8],
     best: Best,
 ) -> Best
-    requires { ⌜ Whole (hadamardCuts p n) p n row × CountsOf p n (now counts) row × (now ones ≡ onesTable p) × (best ≡ kept p n (bestAs n best)) × Products p (now products) ⌝ }
-    ensures { λ r. ⌜ r ≡ kept p n (cond (isGood hadamardShape p n (take n row)) (found (take n row)) (bestAs n best)) ⌝ }
+    requires { ⌜ Whole (cutsOf family p n) p n row × CountsOf p n (now counts) row × (now ones ≡ onesTable p) × (best ≡ kept p n (bestAs n best)) × Products p (now products) ⌝ }
+    ensures { λ r. ⌜ r ≡ kept p n (cond (isGood (shapeOf family) p n (take n row)) (found (take n row)) (bestAs n best)) ⌝ }
 {
-    if hadamard::is_good(p, products, n, row) {
+    if cuts::is_good(family, p, products, n, row) {
         let figure = matrix::figure::line_figure(p, ones, counts, row, n);
         let row_ones = figure.ones;
         Best {
@@ -77,6 +80,7 @@ fn finish(
 
 // The row kept after all rows that begin with the prefix and the letter a.
 fn branch(
+    family: Family,
     p: u16,
     products: &[u8; 65536],
     n: usize,
@@ -90,10 +94,10 @@ fn branch(
     a: u8,
     best: Best,
 ) -> Best
-    requires { ⌜ AtPrefix (hadamardCuts p n) p n (now letters) (now counts) least level prefix count best × NextLetter (hadamardCuts p n) n (now letters) level prefix a × Products p (now products) × (now ones ≡ onesTable p) ⌝ }
-    ensures { λ r. ⌜ r ≡ kept p n (keepAll (tried (hadamardCuts p n) p n) (keyOf p n) (bestAs n best) (completions (now (letters .entry)) (take level prefix ++ a ∷ []) (n - (level + 1)))) ⌝ }
+    requires { ⌜ AtPrefix (cutsOf family p n) p n (now letters) (now counts) least level prefix count best × NextLetter (cutsOf family p n) n (now letters) level prefix a × Products p (now products) × (now ones ≡ onesTable p) ⌝ }
+    ensures { λ r. ⌜ r ≡ kept p n (keepAll (tried (cutsOf family p n) p n) (keyOf p n) (bestAs n best) (completions (now (letters .entry)) (take level prefix ++ a ∷ []) (n - (level + 1)))) ⌝ }
 {
-    if !hadamard::is_next(prefix, level, a) {
+    if !cuts::is_next(family, n, prefix, level, a) {
         return best;
     }
     let next = level + 1;
@@ -102,6 +106,7 @@ fn branch(
         return best;
     }
     grow(
+        family,
         p,
         products,
         n,
@@ -119,6 +124,7 @@ fn branch(
 
 // The same where the letter comes next by the order.
 fn grow(
+    family: Family,
     p: u16,
     products: &[u8; 65536],
     n: usize,
@@ -132,8 +138,8 @@ fn grow(
     a: u8,
     best: Best,
 ) -> Best
-    requires { ⌜ AtPrefix (hadamardCuts p n) p n (now letters) (now counts) least level prefix count best × NextLetter (hadamardCuts p n) n (now letters) level prefix a × (isNext (take level prefix) a ≡ true) × Products p (now products) × (now ones ≡ onesTable p) ⌝ }
-    ensures { λ r. ⌜ r ≡ kept p n (keepAll (tried (hadamardCuts p n) p n) (keyOf p n) (bestAs n best) (completions (now (letters .entry)) (take level prefix ++ a ∷ []) (n - (level + 1)))) ⌝ }
+    requires { ⌜ AtPrefix (cutsOf family p n) p n (now letters) (now counts) least level prefix count best × NextLetter (cutsOf family p n) n (now letters) level prefix a × (isNextOf family n (take level prefix) a ≡ true) × Products p (now products) × (now ones ≡ onesTable p) ⌝ }
+    ensures { λ r. ⌜ r ≡ kept p n (keepAll (tried (cutsOf family p n) p n) (keyOf p n) (bestAs n best) (completions (now (letters .entry)) (take level prefix ++ a ∷ []) (n - (level + 1)))) ⌝ }
 {
     let next = level + 1;
     let total = count + counts[a as usize] as u32;
@@ -143,13 +149,14 @@ fn grow(
     if is_heavy(p, n, ones, counts, row, next, bound, best) {
         return best;
     }
-    if !hadamard::planes_pass(p, products, n, row, level) {
+    if !cuts::blocks_pass(family, p, products, n, row, level) {
         return best;
     }
     if next == n {
-        finish(p, products, n, ones, counts, row, best)
+        finish(family, p, products, n, ones, counts, row, best)
     } else {
         extend(
+            family,
             p,
             products,
             n,
@@ -165,8 +172,9 @@ fn grow(
     }
 }
 
-// The row kept after all rows that begin with the prefix. At the last place one letter alone may stand.
+// The row kept after all rows that begin with the prefix. Where the last letter is forced, it alone is looked at.
 pub fn extend(
+    family: Family,
     p: u16,
     products: &[u8; 65536],
     n: usize,
@@ -179,15 +187,16 @@ pub fn extend(
     count: u32,
     best: Best,
 ) -> Best
-    requires { ⌜ AtPrefix (hadamardCuts p n) p n (now letters) (now counts) least level prefix count best × Products p (now products) × (now ones ≡ onesTable p) ⌝ }
-    ensures { λ r. ⌜ r ≡ kept p n (keepAll (tried (hadamardCuts p n) p n) (keyOf p n) (bestAs n best) (completions (now (letters .entry)) (take level prefix) (n - level))) ⌝ }
+    requires { ⌜ AtPrefix (cutsOf family p n) p n (now letters) (now counts) least level prefix count best × Products p (now products) × (now ones ≡ onesTable p) ⌝ }
+    ensures { λ r. ⌜ r ≡ kept p n (keepAll (tried (cutsOf family p n) p n) (keyOf p n) (bestAs n best) (completions (now (letters .entry)) (take level prefix) (n - level))) ⌝ }
 {
-    if level + 1 == n {
+    if cuts::is_forced(family, level + 1 == n) {
         let a = hadamard::last_letter(prefix, level);
         if counts[a as usize] == 255 {
             return best;
         }
         return branch(
+            family,
             p,
             products,
             n,
@@ -207,6 +216,7 @@ pub fn extend(
     while i < letters.len() {
         let a = letters[i];
         let next = branch(
+            family,
             p,
             products,
             n,

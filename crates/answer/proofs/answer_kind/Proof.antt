@@ -14,6 +14,9 @@ use Rattle.answer.proofs.answer_kind.Tie as tie
 abbrev asked : tie.Start → Request
 asked s = request (s .args .polynomial) (s .args .order) (valuesFrom (now (s .args .part)) 0 (s .args .count))
 
+family-requires : tie.Need-family-requires
+family-requires c κs = c .before .match .keys1
+
 search-row-requires : tie.Need-search-row-requires
 search-row-requires c κs = search needs
 
@@ -32,7 +35,8 @@ same-length c = search needs
 returns : tie.Need-returns
 returns c =
     let called = c .before .before in
-    replied-as (kind-due (kind-search _ (called .before .before .match .keys1)) (asked (called .before .before .before .before .before))) (called .search-row .ensures)
+    let told = called .before in
+    replied-as (kind-due (kind-search _ (told .family .result) (told .family .ensures)) (asked (told .before .before .before .before .before))) (called .search-row .ensures)
 
 same-length-2 : tie.Need-same-length-2
 same-length-2 c = search needs
@@ -58,12 +62,13 @@ returns-4 : tie.Need-returns-4
 returns-4 c =
     let called = c .before .before in
     let other = called .before .before .match .rest in
-    replied-as (kind-unknown _ _ (other .0 .0 .1) (λ e. other .0 .1 (inl e)) (other .1) (λ e. other .0 .1 (inr e))) (called .refuse .ensures)
+    replied-as (kind-unknown _ _ (λ e. other .0 .0 .1 (inl e)) (λ e. other .0 .1 (inl e)) (other .1) (λ e. other .0 .1 (inr e)) (λ e. other .0 .0 .1 (inr e))) (called .refuse .ensures)
 
 pub answer-kind-spec : {M : Type 1} → statement M
 answer-kind-spec =
     tie.close
     (tie.spec
+    family-requires
     search-row-requires
     of-matrix-requires
     survey-requires

@@ -1,7 +1,9 @@
 -- `calls::reply_to` meets its contract: each call stands at its number. Assumes nothing.
-use mathlib.Core.Path.{ap, _∙_}
+use mathlib.Core.Path.{_≡_, ap, _∙_}
 use mathlib.Core.List.{List}
-use Prim.Native.Nat.{ℕ}
+use Prim.Native.Nat.{ℕ, zero, suc, _+_, _<_}
+use native.Mathlib.Omega.{arith}
+use lib.ListN.{drop}
 use denote.Ref.{now}
 use Rattle.calls.specs.Replies.{valueReply, wordsReply, checkReply, searchReply, noAnswer, valueAnswers, replies, replyTo}
 use Rattle.calls.proofs.Numbered.{at-number, values-kept}
@@ -39,6 +41,12 @@ search-requires c κs = search needs
 
 search-reply-requires : tie.Need-search-reply-requires
 search-reply-requires c κs = search needs
+
+search-circulant-requires : tie.Need-search-circulant-requires
+search-circulant-requires c κs = search needs
+
+search-reply-requires-2 : tie.Need-search-reply-requires-2
+search-reply-requires-2 c κs = search needs
 
 value-call-requires : tie.Need-value-call-requires
 value-call-requires c κs = search needs
@@ -82,12 +90,28 @@ returns-5 : tie.Need-returns-5
 unfolding replyTo replies valueAnswers
 returns-5 c =
     let called = c .before in
+    let matched = called .before in
+    at-number (listed (matched .before .before)) (valueReply noAnswer) (matched .match .keys5)
+    (c .search-reply2 .ensures ∙ ap searchReply (called .search-circulant .ensures))
+
+-- a call that is none of the five behind the values
+none-of : (call : ℕ) → (call ≡ 11 → ⊥) → (call ≡ 12 → ⊥) → (call ≡ 13 → ⊥) → (call ≡ 14 → ⊥) → (call ≡ 15 → ⊥) → (k : ℕ) → k < 5 → call ≡ 11 + k → ⊥
+none-of call a b c d e zero l q = a (omega arith)
+none-of call a b c d e (suc zero) l q = b (omega arith)
+none-of call a b c d e (suc (suc zero)) l q = c (omega arith)
+none-of call a b c d e (suc (suc (suc zero))) l q = d (omega arith)
+none-of call a b c d e (suc (suc (suc (suc k)))) l q = e (omega arith)
+
+returns-6 : tie.Need-returns-6
+unfolding replyTo replies valueAnswers
+returns-6 c =
+    let called = c .before in
     let start = called .before .before .before in
     let other = called .before .match .rest in
     c .value-reply .ensures
     ∙ ap valueReply (called .value-call .ensures)
-    ∙ values-kept (valueAnswers (start .args .p) (start .args .a) (start .args .b) (start .args .t5) (start .args .x)) _ _ _ _ (start .args .call)
-    (other .0 .0 .0 .1) (other .0 .0 .1) (other .0 .1) (other .1)
+    ∙ values-kept (valueAnswers (start .args .p) (start .args .a) (start .args .b) (start .args .t5) (start .args .x)) (drop 11 (listed start)) (start .args .call)
+    (none-of (start .args .call) (other .0 .0 .0 .0 .1) (other .0 .0 .0 .1) (other .0 .0 .1) (other .0 .1) (other .1))
 
 pub reply-to-spec : {M : Type 1} → statement M
 reply-to-spec =
@@ -102,10 +126,13 @@ reply-to-spec =
     check-reply-requires
     search-requires
     search-reply-requires
+    search-circulant-requires
+    search-reply-requires-2
     value-call-requires
     value-reply-requires
     returns
     returns-2
     returns-3
     returns-4
-    returns-5)
+    returns-5
+    returns-6)

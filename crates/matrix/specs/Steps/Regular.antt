@@ -14,10 +14,10 @@ isRegularBlock K n f k r s =
     not (eqb (length (chosen n r)) k && eqb (length (chosen n s)) k) || not (K .isNull (det K k (block f (chosen n r) (chosen n s))))
 
 -- every square block of size k whose columns are looked at has a nonzero determinant
-unfoldable pub regularOfSize : (K : Operations) → ℕ → (ℕ → ℕ → K .Element) → Bool → ℕ → Bool
-regularOfSize K n f least k =
-    everyBelow (2 ^ n) (λ s. everyBelow (2 ^ n) (λ r. not (isLookedAt least s) || isRegularBlock K n f k r s))
+unfoldable pub regularOfSize : (K : Operations) → ℕ → (ℕ → ℕ → K .Element) → ℕ → ℕ → Bool
+regularOfSize K n f look k =
+    everyBelow (2 ^ n) (λ s. everyBelow (2 ^ n) (λ r. not (isLookedAt look s) || isRegularBlock K n f k r s))
 
 -- the same for the sizes above `above` up to `most`
-unfoldable pub regularBetween : (K : Operations) → ℕ → (ℕ → ℕ → K .Element) → Bool → ℕ → ℕ → Bool
-regularBetween K n f least above most = everyBelow most (λ k. ltb k above || regularOfSize K n f least (suc k))
+unfoldable pub regularBetween : (K : Operations) → ℕ → (ℕ → ℕ → K .Element) → ℕ → ℕ → ℕ → Bool
+regularBetween K n f look above most = everyBelow most (λ k. ltb k above || regularOfSize K n f look (suc k))

@@ -2,8 +2,8 @@
 use mathlib.Core.Path.{sym}
 use native.Mathlib.Omega.{arith}
 use lib.Seq.{length-take-le}
-use Rattle.search.specs.Steps.Hadamard.{hadamardCuts}
-use Rattle.search.proofs.HadamardCuts.{order-most, order-least, tried-rows}
+use Rattle.search.specs.Steps.Families.{cutsOf}
+use Rattle.search.proofs.Families.{family-most, family-least, family-rows}
 use Rattle.search.proofs.LetterCounts.{listed-fits}
 use Rattle.search.proofs.Start.{start-at, start-answer}
 use borrow.Author.Needs.{needs}
@@ -60,7 +60,7 @@ extend-requires c κs =
     let s = start-of known in (
       start-at (s .args .p) (s .args .n) (s .pre .0) (s .args .candidates .now) (s .pre .2) (s .pre .3) _ _ _ _ (known .before .before .before .count-table .ensures)
           (known .before .size .ensures) (known .letters-of .ensures) (tables .before .before .before .least-count .ensures)
-          (hadamardCuts (s .args .p) (s .args .n)) (s .pre .1) (order-least (s .args .n) (s .pre .1)) (order-most (s .args .n) (s .pre .1)),
+          (cutsOf (s .args .family) (s .args .p) (s .args .n)) (s .pre .1) (family-least (s .args .family) (s .args .n) (s .pre .1)) (family-most (s .args .family) (s .args .n) (s .pre .1)),
       tables .before .products .ensures,
       tables .before .before .ones-table .ensures,
     )
@@ -72,7 +72,7 @@ returns c =
     let s = start-of known in
     start-answer (s .args .p) (s .args .n) (s .pre .0) (s .args .candidates .now) (s .pre .2) (s .pre .3) _ _ _ _ (known .before .before .before .count-table .ensures)
     (known .before .size .ensures) (known .letters-of .ensures) (tables .before .before .before .least-count .ensures)
-    (hadamardCuts (s .args .p) (s .args .n)) (tried-rows (s .args .p) (s .args .n) (s .pre .0) (s .pre .1) (s .args .candidates .now)) (c .extend .result) (c .extend .ensures)
+    (cutsOf (s .args .family) (s .args .p) (s .args .n)) (family-rows (s .args .family) (s .args .p) (s .args .n) (s .pre .0) (s .pre .1) (s .args .candidates .now)) (c .extend .result) (c .extend .ensures)
 
 pub lightest-row-spec : {M : Type 1} → statement M
 lightest-row-spec =

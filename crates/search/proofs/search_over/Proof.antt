@@ -2,28 +2,27 @@
 use mathlib.Core.Path.{_≡_, sym, ap, _∙_}
 use mathlib.Core.Bool.{false}
 use mathlib.Core.List.{[], _∷_}
-use Rattle.refusal.specs.Refusals.{fault, answerAfter}
+use Rattle.refusal.specs.Refusals.{Answer, fault, answerAfter}
 use lib.ListN.{length}
 use Rattle.refusal.specs.declared.Refusal.the-variants.{OrderRange, CountRange, ValueRange, BadCandidate}
 use Rattle.refusal.proofs.Faults.{after-taken, after-left}
 use Rattle.search.specs.Lightest.{Best}
-use Rattle.search.specs.Shape.{hadamardShape}
-use Rattle.search.specs.Answer.{isWrongSearchOrder, isWrongSearchCount, someTooLarge, someBad, isNone, noRow, rowFound, searchFaults, searchAnswer}
+use Rattle.search.specs.Shape.{shapeOf}
+use Rattle.search.specs.Answer.{isWrongOrderFor, isWrongCountFor, someTooLarge, someBad, isNone, RowFound, noRow, rowFound, searchFaults, searchAnswer}
 use Rattle.field.specs.Faults.{polynomialFaults}
 use Rattle.field.proofs.Calls.{modulus-passed}
-use Rattle.search.proofs.HadamardCuts.{order-most}
+use Rattle.search.proofs.Families.{family-most, family-order}
 use Rattle.search.proofs.Prefixes.{best-is, kept-own}
-use Rattle.search.proofs.Refusals.{order-of}
 use Rattle.search.proofs.Start.{row-long, row-in-field}
 use borrow.Author.Needs.{needs}
 use Rattle.search.proofs.search_over.Statement.{statement}
 use Rattle.search.proofs.search_over.Tie as tie
 
 -- what passed before a test is reached
-order : (c : tie.Else1) → isWrongSearchOrder (c .before .before .before .args .n) ≡ false
+order : (c : tie.Else1) → isWrongOrderFor (c .before .before .before .args .family) (c .before .before .before .args .n) ≡ false
 order c = sym (c .before .is-wrong-order .ensures) ∙ c .if1 .left
 
-count : (c : tie.Else2) → isWrongSearchCount (c .before .before .before .before .before .args .n) (length (c .before .before .before .before .before .args .candidates .now)) ≡ false
+count : (c : tie.Else2) → isWrongCountFor (c .before .before .before .before .before .args .family) (c .before .before .before .before .before .args .n) (length (c .before .before .before .before .before .args .candidates .now)) ≡ false
 count c = sym (c .before .is-wrong-count .ensures) ∙ c .if2 .left
 
 values : (c : tie.Else3) → someTooLarge (c .before .before .before .before .before .before .before .args .p) (c .before .before .before .before .before .before .before .args .candidates .now) ≡ false
@@ -93,22 +92,26 @@ returns-4 c =
 lightest-row-requires : tie.Need-lightest-row-requires
 lightest-row-requires c κs =
     let s = c .before .before .before .before .before .before .before .before .before in
-    (s .pre, order-of (s .args .n) (order (c .before .before .before .before .before .before)), values (c .before .before), bad c)
+    (s .pre, family-order (s .args .family) (s .args .n) (order (c .before .before .before .before .before .before)), values (c .before .before), bad c)
 
 found-requires : tie.Need-found-requires
 found-requires c κs =
     let s = c .before .before .before .before .before .before .before .before .before .before in
-    let most = order-most (s .args .n) (order-of (s .args .n) (order (c .before .before .before .before .before .before .before))) in
+    let most = family-most (s .args .family) (s .args .n) (family-order (s .args .family) (s .args .n) (order (c .before .before .before .before .before .before .before))) in
     let b = c .lightest-row in
-    (s .pre, most, row-in-field hadamardShape (s .args .p) (s .args .n) (s .args .candidates .now) most (b .result) (b .ensures), kept-own (s .args .p) (s .args .n) (b .result) _ (row-long hadamardShape (s .args .p) (s .args .n) (s .args .candidates .now)) (b .ensures))
+    (s .pre, most, row-in-field (shapeOf (s .args .family)) (s .args .p) (s .args .n) (s .args .candidates .now) most (b .result) (b .ensures), kept-own (s .args .p) (s .args .n) (b .result) _ (row-long (shapeOf (s .args .family)) (s .args .p) (s .args .n) (s .args .candidates .now)) (b .ensures))
+
+-- what is answered where nothing is refused before 9
+abbrev nine : tie.Start → Best → Answer RowFound
+nine s b = answerAfter noRow (fault 9 (isNone b) ∷ []) (rowFound (s .args .p) (s .args .n) b)
 
 returns-5 : tie.Need-returns-5
 unfolding searchAnswer searchFaults polynomialFaults
 returns-5 c =
     let s = c .before .before .before .before .before .before .before .before .before .before .before in
     c .found .ensures
-    ∙ ap (λ (b : Best). answerAfter noRow (fault 9 (isNone b) ∷ []) (rowFound (s .args .p) (s .args .n) b))
-    (best-is (s .args .p) (s .args .n) (c .before .lightest-row .result) _ (row-long hadamardShape (s .args .p) (s .args .n) (s .args .candidates .now)) (c .before .lightest-row .ensures))
+    ∙ ap (nine s)
+    (best-is (s .args .p) (s .args .n) (c .before .lightest-row .result) _ (row-long (shapeOf (s .args .family)) (s .args .p) (s .args .n) (s .args .candidates .now)) (c .before .lightest-row .ensures))
     ∙ after-left noRow _ 8 _ _ (bad (c .before .before))
     ∙ after-left noRow _ 7 _ _ (values (c .before .before .before .before))
     ∙ after-left noRow _ 6 _ _ (count (c .before .before .before .before .before .before))

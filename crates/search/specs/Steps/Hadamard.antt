@@ -3,7 +3,7 @@
 use mathlib.Core.Path.{_≡_}
 use mathlib.Core.Logic.{_⊎_}
 use mathlib.Core.Bool.{Bool, not, _&&_, _||_}
-use mathlib.Core.List.{List, [], _∷_, _++_, foldl}
+use mathlib.Core.List.{List, [], _∷_, foldl}
 use Prim.Native.Nat.{ℕ}
 use lib.Bits.{bitXor}
 use lib.Dec.{eqb, leb, ltb}
@@ -11,8 +11,6 @@ use lib.ListN.{length, getD}
 use Rattle.field.specs.Polynomial.{_⊕_, product}
 use Rattle.field.specs.Steps.{everyBelow}
 use Rattle.search.specs.Lightest.{member}
-use Rattle.search.specs.Shape.{hadamardShape}
-use Rattle.search.specs.Steps.Prefix.{Cuts}
 
 -- the orders of a search for a Hadamard matrix
 abbrev pub SearchOrder : ℕ → Type 0
@@ -39,15 +37,6 @@ planePasses p n row d b a =
 unfoldable pub planesPass : ℕ → ℕ → List ℕ → ℕ → Bool
 planesPass p n row d = everyBelow d (λ b. everyBelow b (planePasses p n row d b))
 
--- whether a may stand behind the prefix
-unfoldable pub mayStand : ℕ → ℕ → List ℕ → ℕ → Bool
-mayStand p n prefix a = isNext prefix a && planesPass p n (prefix ++ a ∷ []) (length prefix)
-
 -- the letter that makes the exclusive or of the row 1
 unfoldable pub lastLetter : List ℕ → ℕ
 lastLetter prefix = foldl _⊕_ 0 prefix ⊕ 1
-
--- the shape with these cuts, over the field of p and of order n
-abbrev pub hadamardCuts : ℕ → ℕ → Cuts
-hadamardCuts p n =
-    record { shape = hadamardShape; Order = SearchOrder; mayStand = mayStand p n; mayEnd = λ prefix a. eqb a (lastLetter prefix) }

@@ -1,7 +1,7 @@
 -- The walk of the code from prefix to prefix, for any shape: what its cuts leave out, the row kept, and what holds at a prefix.
 use mathlib.Core.Path.{_≡_}
 use mathlib.Core.Bool.{Bool, true, false, cond, _&&_, _||_}
-use mathlib.Core.List.{List, _++_, List·Memᴰ}
+use mathlib.Core.List.{List, [], _∷_, _++_, List·Memᴰ}
 use Prim.Native.Nat.{ℕ, _+_, _-_, _^_, _≤_, _<_}
 use lib.Dec.{eqb, leb, ltb}
 use lib.ListN.{length, getD, take, drop, replicate}
@@ -17,22 +17,27 @@ use Rattle.search.specs.Steps.Letters.{countTable, leastCount}
 
 -- ---- the cuts
 
--- a shape with the cuts of its walk: the orders of its searches, whether a letter may stand behind a prefix, and whether it may then
--- be the last of the row
+-- a shape with the cuts of its walk: the orders of its searches, whether a letter comes next behind a prefix by the order of the entries,
+-- whether the small blocks pass that the entry at a place of a row completes, and whether a letter may be the last of the row
 pub record Cuts : Type 1 where
   pub shape : Shape
   pub Order : ℕ → Type 0
-  pub mayStand : List ℕ → ℕ → Bool
+  pub isNext : List ℕ → ℕ → Bool
+  pub blocksPass : List ℕ → ℕ → Bool
   pub mayEnd : List ℕ → ℕ → Bool
+
+-- whether a may stand behind the prefix
+unfoldable pub mayStand : Cuts → List ℕ → ℕ → Bool
+mayStand cuts prefix a = cuts .isNext prefix a && cuts .blocksPass (prefix ++ a ∷ []) (length prefix)
 
 -- each entry may stand behind those before it, and the last may be the last
 unfoldable pub passes : Cuts → ℕ → List ℕ → Bool
 passes cuts n row =
-    everyBelow n (λ d. cuts .mayStand (take d row) (getD row d 0)) && cuts .mayEnd (take (n - 1) row) (getD row (n - 1) 0)
+    everyBelow n (λ d. mayStand cuts (take d row) (getD row d 0)) && cuts .mayEnd (take (n - 1) row) (getD row (n - 1) 0)
 
 -- each of the first n entries of an array may stand behind those before it
 abbrev pub AllStand : Cuts → ℕ → List ℕ → Type 0
-AllStand cuts n row = (d : ℕ) → d < n → cuts .mayStand (take d row) (getD row d 0) ≡ true
+AllStand cuts n row = (d : ℕ) → d < n → mayStand cuts (take d row) (getD row d 0) ≡ true
 
 -- the rows that are tried and good
 unfoldable pub tried : Cuts → ℕ → ℕ → List ℕ → Bool

@@ -27,25 +27,25 @@ read-values-requires c κs = search needs
 array-share-prefix-values : tie.Need-array-share-prefix-values
 array-share-prefix-values c = search needs
 
-slice-aggregate-search : tie.Need-slice-aggregate-search
-slice-aggregate-search c = sym (length-take-le _ _ (array-share-prefix-values (c .before)))
+slice-aggregate-search-for : tie.Need-slice-aggregate-search-for
+slice-aggregate-search-for c = sym (length-take-le _ _ (array-share-prefix-values (c .before)))
 
-search-requires : tie.Need-search-requires
-search-requires c κs = search needs
+search-for-requires : tie.Need-search-for-requires
+search-for-requires c κs = search needs
 
 -- the values that are kept
 abbrev kept : tie.Start → List ℕ
 kept s = valuesFrom (now (s .args .part)) 0 (min (s .args .count) 256)
 
 -- what the search says of them
-said : (c : tie.After-search) → let s = c .before .before .before .before .before .before in saysSearch (c .search .result) ≡ searchAnswer (s .args .p) (s .args .n) (kept s)
+said : (c : tie.After-search-for) → let s = c .before .before .before .before .before .before in saysSearch (c .search-for .result) ≡ searchAnswer (s .args .family) (s .args .p) (s .args .n) (kept s)
 said c =
     let read = c .before .before in
     let s = read .before .before .before .before in
     let part = now (s .args .part) in
     let size = read .before .at-most .result in
-    c .search .ensures
-    ∙ ap (searchAnswer (s .args .p) (s .args .n))
+    c .search-for .ensures
+    ∙ ap (searchAnswer (s .args .family) (s .args .p) (s .args .n))
     (ap (take size) (read .read-values .ensures)
     ∙ take-at (valuesFrom part 0 size) _ size (length-valuesFrom part 0 size)
     ∙ ap (valuesFrom part 0) (read .before .at-most .ensures))
@@ -62,19 +62,19 @@ enum-known-outcome-2 c = search needs
 -- a row is found
 told : (c : tie.After-outcome2)
     → let s = c .before .before .before .before .before .before .before .before .before in
-    saysOutcome (Value (c .outcome2 .given .0 .0)) (c .before .before .before .search .result .row) ≡ searchAnswer (s .args .p) (s .args .n) (kept s)
+    saysOutcome (Value (c .outcome2 .given .0 .0)) (c .before .before .before .search-for .result .row) ≡ searchAnswer (s .args .family) (s .args .p) (s .args .n) (kept s)
 told c =
     let searched = c .before .before .before in
-    ap (λ (o : Outcome). saysOutcome o (searched .search .result .row)) (sym (c .outcome2 .given .1)) ∙ said searched
+    ap (λ (o : Outcome). saysOutcome o (searched .search-for .result .row)) (sym (c .outcome2 .given .1)) ∙ said searched
 
 cast-put-row : tie.Need-cast-put-row
-cast-put-row c = record { fits = modulus-fits (search-passed _ _ _ _ _ (told (c .before .before)) .modulus) }
+cast-put-row c = record { fits = modulus-fits (search-passed _ _ _ _ _ _ (told (c .before .before)) .modulus) }
 
 put-row-requires : tie.Need-put-row-requires
 put-row-requires c κs =
     let t = told (c .before .before) in
-    let a = search-passed _ _ _ _ _ t in
-    (a .modulus, a .low, a .high, sum-told _ _ _ _ _ t)
+    let a = search-passed _ _ _ _ _ _ t in
+    (a .modulus, a .low, a .high, sum-told _ _ _ _ _ _ t)
 
 same-length : tie.Need-same-length
 same-length c = search needs
@@ -86,9 +86,9 @@ returns c =
     let searched = refused .before .before .before in
     let s = searched .before .before .before .before .before .before in
     replied-as
-    (search-refused (s .args .p) (s .args .n) (kept s) (refused .outcome .given .0 .0) (searched .search .result .row)
-    (ap (λ (o : Outcome). saysOutcome o (searched .search .result .row)) (sym (refused .outcome .given .1)) ∙ said searched)
-    ∙ search-kept (s .args .p) (s .args .n) (now (s .args .part)) (s .args .count))
+    (search-refused (s .args .family) (s .args .p) (s .args .n) (kept s) (refused .outcome .given .0 .0) (searched .search-for .result .row)
+    (ap (λ (o : Outcome). saysOutcome o (searched .search-for .result .row)) (sym (refused .outcome .given .1)) ∙ said searched)
+    ∙ search-kept (s .args .family) (s .args .p) (s .args .n) (now (s .args .part)) (s .args .count))
     (called .refuse .ensures)
 
 same-length-2 : tie.Need-same-length-2
@@ -100,7 +100,7 @@ returns-2 c =
     let known = called .before .before .before in
     let s = known .before .before .before .before .before .before .before .before .before in
     replied-as
-    (search-told _ _ _ _ _ (told known) ∙ search-kept (s .args .p) (s .args .n) (now (s .args .part)) (s .args .count))
+    (search-told _ _ _ _ _ _ (told known) ∙ search-kept (s .args .family) (s .args .p) (s .args .n) (now (s .args .part)) (s .args .count))
     (called .put-row .ensures)
 
 pub search-row-spec : {M : Type 1} → statement M
@@ -110,8 +110,8 @@ search-row-spec =
     at-most-requires
     read-values-requires
     array-share-prefix-values
-    slice-aggregate-search
-    search-requires
+    slice-aggregate-search-for
+    search-for-requires
     enum-known-outcome
     refuse-requires
     enum-known-outcome-2

@@ -19,16 +19,16 @@ use Rattle.matrix.proofs.block.regular_of_size.Statement.{statement}
 use Rattle.matrix.proofs.block.regular_of_size.Tie as tie
 
 abbrev Inv-loop : tie.InvT-loop
-Inv-loop p products m n least k end first columns narrow lines₀ lines = Passed false (2 ^ n) k (Regular p n k (entry m) columns) lines
+Inv-loop p products m n look k end first columns narrow lines₀ lines = Passed 0 (2 ^ n) k (Regular p n k (entry m) columns) lines
 
 abbrev μ-loop : tie.MeasureT-loop
-μ-loop p products m n least k end first columns narrow lines₀ lines = end - lines
+μ-loop p products m n look k end first columns narrow lines₀ lines = end - lines
 
 abbrev Inv-choices : tie.InvT-choices
-Inv-choices p products m n least k end first columns₀ columns = Passed least (2 ^ n) k (RegularColumns p n k (entry m) least) columns
+Inv-choices p products m n look k end first columns₀ columns = Passed look (2 ^ n) k (RegularColumns p n k (entry m) look) columns
 
 abbrev μ-choices : tie.MeasureT-choices
-μ-choices p products m n least k end first columns₀ columns = end - columns
+μ-choices p products m n look k end first columns₀ columns = end - columns
 
 -- the masks end at 2^n, at most 256; the first choice of n is 2^n - 1
 module _ (n : ℕ) (h : n ≤ 8) where
@@ -66,7 +66,7 @@ choices-holds : tie.Need-choices-holds Inv-loop μ-loop Inv-choices μ-choices
 choices-holds c =
     let a = c .args in
     let few : a .k ≤ 8 = omega arith in
-    passed-none (a .least) (2 ^ a .n) (a .k) _ (other-columns (a .p) (a .n) (a .k) (entry (a .m)) (a .least)) _ (c .pre .2) few (first (a .k) few)
+    passed-none (a .look) (2 ^ a .n) (a .k) _ (other-columns (a .p) (a .n) (a .k) (entry (a .m)) (a .look)) _ (c .pre .6) (c .pre .2) few (first (a .k) few)
 
 chosen-columns-requires : tie.Need-chosen-columns-requires Inv-loop μ-loop Inv-choices μ-choices
 chosen-columns-requires c κs =
@@ -78,7 +78,7 @@ loop-holds c =
     let a = c .before .before .before .args in
     let pre = c .before .before .before .pre in
     let few : a .k ≤ 8 = omega (arith, pre .1, pre .3) in
-    passed-none false (2 ^ a .n) (a .k) _ (other-lines (a .p) (a .n) (a .k) (entry (a .m)) (c .before .before .choices .columns)) _ (pre .2) few (first (a .k) few)
+    passed-none 0 (2 ^ a .n) (a .k) _ (other-lines (a .p) (a .n) (a .k) (entry (a .m)) (c .before .before .choices .columns)) _ (omega arith) (pre .2) few (first (a .k) few)
 
 -- a turn of the inner loop: the arguments, and the two masks
 abbrev given : (c : tie.In-loop Inv-loop μ-loop Inv-choices μ-choices) → tie.Start Inv-loop μ-loop Inv-choices μ-choices
@@ -91,13 +91,13 @@ abbrev linesOf : (c : tie.In-loop Inv-loop μ-loop Inv-choices μ-choices) → �
 linesOf c = c .before .loop .lines
 
 -- both masks are choices
-turn : (c : tie.In-loop Inv-loop μ-loop Inv-choices μ-choices) → Both (given c .args .least) (given c .args .n) (given c .args .k) (linesOf c) (columnsOf c)
+turn : (c : tie.In-loop Inv-loop μ-loop Inv-choices μ-choices) → Both (given c .args .look) (given c .args .n) (given c .args .k) (linesOf c) (columnsOf c)
 turn c =
     let a = given c .args in
     let size = given c .pre .1 in
     let hl = below (a .n) size (linesOf c) (c .loop-test .taken) in
     let hc = below (a .n) size (columnsOf c) (c .before .before .before .choices-test .taken) in
-    both (a .least) (a .n) (a .k) (linesOf c) (columnsOf c) (most (a .n) size) hl hc (c .before .loop .inv .found hl) (c .before .before .before .before .choices .inv .found hc)
+    both (a .look) (a .n) (a .k) (linesOf c) (columnsOf c) (most (a .n) size) hl hc (c .before .loop .inv .found hl) (c .before .before .before .before .choices .inv .found hc)
 
 chosen-lines-requires : tie.Need-chosen-lines-requires Inv-loop μ-loop Inv-choices μ-choices
 chosen-lines-requires c κs = small (given c .args .n) (given c .pre .1) (linesOf c) (c .loop-test .taken)
@@ -109,7 +109,7 @@ determinant-requires c κs =
     let pre = given t .pre in (
       pre .0,
       omega (arith, pre .1, pre .3),
-      square-in-field (a .least) (a .p) (a .n) (a .k) (linesOf t) (columnsOf t) (a .m) (t .before .before .chosen-columns .result) (c .chosen-lines .result)
+      square-in-field (a .look) (a .p) (a .n) (a .k) (linesOf t) (columnsOf t) (a .m) (t .before .before .chosen-columns .result) (c .chosen-lines .result)
           (pre .1) (turn t) (t .before .before .chosen-columns .ensures) (c .chosen-lines .ensures) (pre .4),
       pre .5,
     )
@@ -125,7 +125,7 @@ chosen-det : (c : tie.After-determinant Inv-loop μ-loop Inv-choices μ-choices)
 chosen-det c =
     let t = c .before .before in
     let a = given t .args in
-    square-det (a .least) (a .p) (a .n) (a .k) (linesOf t) (columnsOf t) (a .m) (t .before .before .chosen-columns .result) (c .before .chosen-lines .result)
+    square-det (a .look) (a .p) (a .n) (a .k) (linesOf t) (columnsOf t) (a .m) (t .before .before .chosen-columns .result) (c .before .chosen-lines .result)
     (given t .pre .1) (turn t) (t .before .before .chosen-columns .ensures) (c .before .chosen-lines .ensures) (c .determinant .result) (c .determinant .ensures)
 
 next-choice-requires : tie.Need-next-choice-requires Inv-loop μ-loop Inv-choices μ-choices
@@ -136,27 +136,28 @@ next-choice-requires c κs =
 loop-less : tie.Need-loop-less Inv-loop μ-loop Inv-choices μ-choices
 loop-less c =
     let t = c .before .before .before .before in
-    omega (arith, t .loop-test .taken, c .next-choice .ensures, next-later false (linesOf t))
+    omega (arith, t .loop-test .taken, c .next-choice .ensures, next-later 0 (linesOf t))
 
 loop-again : tie.Need-loop-again Inv-loop μ-loop Inv-choices μ-choices
 loop-again c =
     let t = c .before .before .before .before in
     let a = given t .args in
-    passed-more false (2 ^ a .n) (a .k) _ (other-lines (a .p) (a .n) (a .k) (entry (a .m)) (columnsOf t)) (linesOf t) (c .next-choice .result)
+    passed-more 0 (2 ^ a .n) (a .k) _ (other-lines (a .p) (a .n) (a .k) (entry (a .m)) (columnsOf t)) (linesOf t) (c .next-choice .result)
     (most (a .n) (given t .pre .1)) (turn t .lines-below) (t .before .loop .inv)
-    (block-regular (a .p) (a .n) (a .k) (entry (a .m)) (a .least) (columnsOf t) (linesOf t) (c .before .before .determinant .result)
+    (block-regular (a .p) (a .n) (a .k) (entry (a .m)) (a .look) (columnsOf t) (linesOf t) (c .before .before .determinant .result)
     (chosen-det (c .before .before)) (c .before .if1 .left))
     (c .next-choice .ensures)
 
 next-columns-requires : tie.Need-next-columns-requires Inv-loop μ-loop Inv-choices μ-choices
 next-columns-requires c κs =
     let o = c .before .before .before in
-    (o .before .choices .inv .positive, small (o .before .before .args .n) (o .before .before .pre .1) (o .before .choices .columns) (o .choices-test .taken))
+    let pre = o .before .before .pre in
+    (o .before .choices .inv .positive, small (o .before .before .args .n) (pre .1) (o .before .choices .columns) (o .choices-test .taken), pre .6)
 
 choices-less : tie.Need-choices-less Inv-loop μ-loop Inv-choices μ-choices
 choices-less c =
     let o = c .before .before .before .before in
-    omega (arith, o .choices-test .taken, c .next-columns .ensures, next-later (o .before .before .args .least) (o .before .choices .columns))
+    omega (arith, o .choices-test .taken, c .next-columns .ensures, next-later (o .before .before .args .look) (o .before .choices .columns))
 
 choices-again : tie.Need-choices-again Inv-loop μ-loop Inv-choices μ-choices
 choices-again c =
@@ -165,21 +166,21 @@ choices-again c =
     let size = o .before .before .pre .1 in
     let lines = c .before .before .loop in
     let columns = o .before .choices in
-    passed-more (a .least) (2 ^ a .n) (a .k) _ (other-columns (a .p) (a .n) (a .k) (entry (a .m)) (a .least)) (columns .columns) (c .next-columns .result)
+    passed-more (a .look) (2 ^ a .n) (a .k) _ (other-columns (a .p) (a .n) (a .k) (entry (a .m)) (a .look)) (columns .columns) (c .next-columns .result)
     (most (a .n) size) (below (a .n) size (columns .columns) (o .choices-test .taken)) (columns .inv)
-    (columns-passed (a .p) (a .n) (a .k) (entry (a .m)) (a .least) (columns .columns) (lines .lines) (lines .inv) (past (a .n) size (lines .lines) (c .before .loop-test .left)))
+    (columns-passed (a .p) (a .n) (a .k) (entry (a .m)) (a .look) (columns .columns) (lines .lines) (lines .inv) (past (a .n) size (lines .lines) (c .before .loop-test .left)))
     (c .next-columns .ensures)
 
 -- the value that the contract asks for
 abbrev due : (c : tie.Start Inv-loop μ-loop Inv-choices μ-choices) → Bool
-due c = regularOfSize (numbers (c .args .p)) (c .args .n) (entry (c .args .m)) (c .args .least) (c .args .k)
+due c = regularOfSize (numbers (c .args .p)) (c .args .n) (entry (c .args .m)) (c .args .look) (c .args .k)
 
 -- a determinant that is 0 decides
 found-singular : (c : tie.Then1 Inv-loop μ-loop Inv-choices μ-choices) → false ≡ due (given (c .before .before .before))
 found-singular c =
     let t = c .before .before .before in
     let a = given t .args in
-    one-singular (a .p) (a .n) (a .k) (entry (a .m)) (a .least) (columnsOf t) (linesOf t) (c .before .determinant .result) (chosen-det (c .before)) (turn t) (c .if1 .taken)
+    one-singular (a .p) (a .n) (a .k) (entry (a .m)) (a .look) (columnsOf t) (linesOf t) (c .before .determinant .result) (chosen-det (c .before)) (turn t) (c .if1 .taken)
 
 returns : tie.Need-returns Inv-loop μ-loop Inv-choices μ-choices
 returns c =
@@ -188,7 +189,7 @@ returns c =
     ⊎-elim
     (λ w.
     le-leb (1 * 2 ^ a .n % 65536) (columns .columns) (w .left)
-    ∙ all-passed (a .p) (a .n) (a .k) (entry (a .m)) (a .least) (columns .columns) (columns .inv) (past (a .n) (c .before .before .pre .1) (columns .columns) (w .left)))
+    ∙ all-passed (a .p) (a .n) (a .k) (entry (a .m)) (a .look) (columns .columns) (columns .inv) (past (a .n) (c .before .before .pre .1) (columns .columns) (w .left)))
     (λ w.
     let o : tie.After-chosen-columns Inv-loop μ-loop Inv-choices μ-choices = record { before = record { before = c .before; choices-test = w .0 }; chosen-columns = w .1 } in
     let t : tie.In-loop Inv-loop μ-loop Inv-choices μ-choices = record { before = record { before = o; loop = w .2 }; loop-test = w .3 } in

@@ -1,6 +1,7 @@
 -- `matrix::call::is_mds` meets its contract: a matrix is MDS exactly if every square block is regular. Assumes nothing.
 use mathlib.Core.Path.{sym, _∙_}
 use native.Mathlib.Nat.{le-refl}
+use native.Mathlib.Omega.{arith}
 use Rattle.matrix.specs.Numbers.{entry, InField}
 use Rattle.matrix.proofs.Theorems.{mds-is-regular}
 use borrow.Author.Needs.{needs}
@@ -13,7 +14,7 @@ products-requires c κs = search needs
 regular-between-requires : tie.Need-regular-between-requires
 regular-between-requires c κs =
     let pre = c .before .before .pre in
-    (pre .0, pre .2, le-refl _, pre .3, c .before .products .ensures)
+    (pre .0, pre .2, le-refl _, pre .3, c .before .products .ensures, omega arith)
 
 returns : tie.Need-returns
 unfolding InField

@@ -15,7 +15,7 @@ regular-between-requires : tie.Need-regular-between-requires
 regular-between-requires c κs =
     let s = c .before in
     let most : s .args .n ≤ 8 = order-most (s .args .n) (s .pre .1) in
-    (s .pre .0, most, omega arith, matrix-in-field (s .args .p) (s .args .n) (s .pre .0) (s .pre .1) (s .args .row) (s .pre .2) (c .hadamard-matrix .result) (c .hadamard-matrix .ensures), s .pre .5)
+    (s .pre .0, most, omega arith, matrix-in-field (s .args .p) (s .args .n) (s .pre .0) (s .pre .1) (s .args .row) (s .pre .2) (c .hadamard-matrix .result) (c .hadamard-matrix .ensures), s .pre .5, omega arith)
 
 returns : tie.Need-returns
 returns c =

@@ -6,13 +6,14 @@ use native.Mathlib.Nat.{lt-of-le-of-lt}
 use native.Mathlib.Omega.{arith}
 use lib.Dec.{lit<}
 use lib.ListN.{length, take}
-use borrow.Author.Tests.{not-true, not-false}
+use borrow.Author.Tests.{eqb-true, not-true, not-false}
 use Rattle.search.specs.Lightest.{keepAll}
 use Rattle.search.specs.Steps.Walk.{completions, branches}
 use Rattle.search.specs.Answer.{keyOf}
-use Rattle.search.specs.Steps.Prefix.{kept, bestAs, tried}
-use Rattle.search.specs.Steps.Hadamard.{mayStand, hadamardCuts}
-use Rattle.search.proofs.HadamardCuts.{stand-not-next, stand-not-planes, stand-both, only-last}
+use Rattle.search.specs.Steps.Prefix.{kept, bestAs, mayStand, tried}
+use Rattle.search.specs.Steps.Families.{cutsOf}
+use Rattle.search.proofs.Pruning.{OnlyLast, stand-not-next, stand-not-blocks, stand-both}
+use Rattle.search.proofs.Families.{family-back, family-forced, forced-last, family-free}
 use Rattle.search.proofs.Prefixes.{level-inside, level-fits, count-small, bound-small, letter-small, branch-left, branch-heavy, branch-heavier}
 use Rattle.search.proofs.Prefixes.{prefix-next, in-field-next, in-field-suc, counts-next, counts-whole, at-next, whole-next, branch-whole}
 use Rattle.search.proofs.Prefixes.{upto-none, upto-letter, upto-at, upto-more, upto-all, last-left, last-taken, last-row}
@@ -30,8 +31,9 @@ use Rattle.search.proofs.prefix.grow.Kinds as grow-kinds
 use Rattle.search.proofs.prefix.+branch+extend+grow.Lts-grow as grow-lts
 use Rattle.search.proofs.prefix.finish.Reads as finish-reads
 use Rattle.search.proofs.hadamard.last_letter.Reads as last-letter-reads
-use Rattle.search.proofs.hadamard.is_next.Reads as is-next-reads
-use Rattle.search.proofs.hadamard.planes_pass.Reads as planes-pass-reads
+use Rattle.search.proofs.cuts.is_next.Reads as is-next-reads
+use Rattle.search.proofs.cuts.blocks_pass.Reads as blocks-pass-reads
+use Rattle.search.proofs.cuts.is_forced.Reads as is-forced-reads
 use Rattle.search.proofs.prefix.is_heavier.Reads as is-heavier-reads
 use Rattle.search.proofs.prefix.is_heavy.Reads as is-heavy-reads
 use Rattle.search.proofs.prefix.+branch+extend+grow.{statement}
@@ -41,13 +43,13 @@ abbrev thrice : ℕ → ℕ
 thrice d = d + d + d
 
 abbrev μ-branch : Measures 4 branch-kinds.ps ℕ
-μ-branch κs a = thrice (a .1 .1 .0 - a .1 .1 .1 .1 .1 .1 .1 .0) + 1
+μ-branch κs a = thrice (a .1 .1 .1 .0 - a .1 .1 .1 .1 .1 .1 .1 .1 .0) + 1
 
 abbrev μ-extend : Measures 4 extend-kinds.ps ℕ
-μ-extend κs a = thrice (a .1 .1 .0 - a .1 .1 .1 .1 .1 .1 .1 .0) + 2
+μ-extend κs a = thrice (a .1 .1 .1 .0 - a .1 .1 .1 .1 .1 .1 .1 .1 .0) + 2
 
 abbrev μ-grow : Measures 4 grow-kinds.ps ℕ
-μ-grow κs a = thrice (a .1 .1 .0 - a .1 .1 .1 .1 .1 .1 .1 .0)
+μ-grow κs a = thrice (a .1 .1 .1 .0 - a .1 .1 .1 .1 .1 .1 .1 .1 .0)
 
 abbrev branch-at : ℕ → In 4 branch-kinds.ps
 branch-at t = and 4 branch-kinds.ps (is 4 branch-kinds.ps μ-branch t) branch.Pre
@@ -71,21 +73,21 @@ abbrev branch-given : ℕ → branch-lts.Claims
 branch-given t = (is-next-reads.Asked, is-next-reads.Learnt, is-heavier-reads.Asked, is-heavier-reads.Learnt, grow-below t, grow.Post)
 
 abbrev grow-given : ℕ → grow-lts.Claims
-grow-given t = (is-heavy-reads.Asked, is-heavy-reads.Learnt, planes-pass-reads.Asked, planes-pass-reads.Learnt, finish-reads.Asked, finish-reads.Learnt, extend-below t, extend.Post)
+grow-given t = (is-heavy-reads.Asked, is-heavy-reads.Learnt, blocks-pass-reads.Asked, blocks-pass-reads.Learnt, finish-reads.Asked, finish-reads.Learnt, extend-below t, extend.Post)
 
 abbrev extend-given : ℕ → extend-lts.Claims
-extend-given t = (last-letter-reads.Asked, last-letter-reads.Learnt, branch-below t, branch.Post)
+extend-given t = (is-forced-reads.Asked, is-forced-reads.Learnt, last-letter-reads.Asked, last-letter-reads.Learnt, branch-below t, branch.Post)
 
 branch-is-next-requires : (t : ℕ) → branch-lts.Need-is-next-requires (branch-given t) (branch-at t) branch.Post
 branch-is-next-requires t c κs =
     let s = c .before in
-    level-inside (s .pre .1 .0)
+    (s .pre .1 .0 .brief .most, level-inside (s .pre .1 .0))
 
 branch-returns : (t : ℕ) → branch-lts.Need-returns (branch-given t) (branch-at t) branch.Post
 branch-returns t c =
     let s = c .before .before .before in
     branch-left (s .pre .1 .0) (s .pre .1 .1)
-    (stand-not-next _ _ _ _ (sym (c .before .is-next .ensures) ∙ not-true (c .before .is-next .result) (c .if1 .taken)))
+    (stand-not-next (cutsOf (s .args .family) (s .args .p) (s .args .n)) _ _ (sym (c .before .is-next .ensures) ∙ not-true (c .before .is-next .result) (c .if1 .taken)))
 
 branch-add-next : (t : ℕ) → branch-lts.Need-add-next (branch-given t) (branch-at t) branch.Post
 branch-add-next t c = search needs
@@ -193,30 +195,30 @@ grow-returns t c =
     let s = c .before .before .before .before in
     branch-heavy (s .pre .1 .0) (s .pre .1 .1) (sym (c .before .is-heavy .ensures) ∙ c .if1 .taken)
 
-grow-planes-pass-requires : (t : ℕ) → grow-lts.Need-planes-pass-requires (grow-given t) (grow-at t) grow.Post
-grow-planes-pass-requires t c κs =
+grow-blocks-pass-requires : (t : ℕ) → grow-lts.Need-blocks-pass-requires (grow-given t) (grow-at t) grow.Post
+grow-blocks-pass-requires t c κs =
     let s = c .before .before .before .before in
-    (level-inside (s .pre .1 .0), in-field-suc (s .pre .1 .0) (s .pre .1 .1), s .pre .1 .3)
+    (s .pre .1 .0 .inside, s .pre .1 .0 .brief .most, in-field-suc (s .pre .1 .0) (s .pre .1 .1), s .pre .1 .3)
 
--- the start, from where the planes are looked at
-abbrev start-from : (t : ℕ) → grow-lts.After-planes-pass (grow-given t) (grow-at t) grow.Post → grow-lts.Start (grow-given t) (grow-at t) grow.Post
+-- the start, from where the blocks are looked at
+abbrev start-from : (t : ℕ) → grow-lts.After-blocks-pass (grow-given t) (grow-at t) grow.Post → grow-lts.Start (grow-given t) (grow-at t) grow.Post
 start-from t c = c .before .before .before .before .before
 
 -- the letter may stand behind the prefix
 abbrev Stands : (t : ℕ) → grow-lts.Start (grow-given t) (grow-at t) grow.Post → Type 0
-Stands t s = mayStand (s .args .p) (s .args .n) (take (s .args .level) (s .args .prefix)) (s .args .a) ≡ true
+Stands t s = mayStand (cutsOf (s .args .family) (s .args .p) (s .args .n)) (take (s .args .level) (s .args .prefix)) (s .args .a) ≡ true
 
 grow-returns-2 : (t : ℕ) → grow-lts.Need-returns-2 (grow-given t) (grow-at t) grow.Post
 grow-returns-2 t c =
     let s = start-from t (c .before) in
     branch-left (s .pre .1 .0) (s .pre .1 .1)
-    (stand-not-planes _ _ _ _ (level-fits (s .pre .1 .0)) _ (sym (c .before .planes-pass .ensures) ∙ not-true (c .before .planes-pass .result) (c .if2 .taken)))
+    (stand-not-blocks _ (family-back (s .args .family) (s .args .p) (s .args .n)) _ _ (level-fits (s .pre .1 .0)) _ (sym (c .before .blocks-pass .ensures) ∙ not-true (c .before .blocks-pass .result) (c .if2 .taken)))
 
 stands : (t : ℕ) (c : grow-lts.Else2 (grow-given t) (grow-at t) grow.Post) → Stands t (start-from t (c .before))
 stands t c =
     let s = start-from t (c .before) in
-    stand-both _ _ _ _ (level-fits (s .pre .1 .0)) _ (s .pre .1 .2)
-    (sym (c .before .planes-pass .ensures) ∙ not-false (c .before .planes-pass .result) (c .if2 .left))
+    stand-both _ (family-back (s .args .family) (s .args .p) (s .args .n)) _ _ (level-fits (s .pre .1 .0)) _ (s .pre .1 .2)
+    (sym (c .before .blocks-pass .ensures) ∙ not-false (c .before .blocks-pass .result) (c .if2 .left))
 
 grow-finish-requires : (t : ℕ) → grow-lts.Need-finish-requires (grow-given t) (grow-at t) grow.Post
 grow-finish-requires t c κs =
@@ -252,21 +254,43 @@ grow-returns-4 t c =
     let s = start-from t (c .before .before .before) in
     let a = s .args in
     c .extend .ensures
-    ∙ ap (λ l. kept (a .p) (a .n) (keepAll (tried (hadamardCuts (a .p) (a .n)) (a .p) (a .n)) (keyOf (a .p) (a .n)) (bestAs (a .n) (a .best)) (completions (a .letters .now) l (a .n - (a .level + 1)))))
+    ∙ ap (λ l. kept (a .p) (a .n) (keepAll (tried (cutsOf (a .family) (a .p) (a .n)) (a .p) (a .n)) (keyOf (a .p) (a .n)) (bestAs (a .n) (a .best)) (completions (a .letters .now) l (a .n - (a .level + 1)))))
     (prefix-next (s .pre .1 .0) (s .pre .1 .1))
 
 abbrev extend-Inv-loop : extend-lts.InvT-loop
-extend-Inv-loop p products n letters ones counts least level prefix count held₀ i₀ held i = (i ≤ length letters) × (held ≡ kept p n (branches (tried (hadamardCuts p n) p n) (keyOf p n) letters (take level prefix) (n - (level + 1)) (bestAs n held₀) (take i letters)))
+extend-Inv-loop family p products n letters ones counts least level prefix count held₀ i₀ held i = (i ≤ length letters) × (held ≡ kept p n (branches (tried (cutsOf family p n) p n) (keyOf p n) letters (take level prefix) (n - (level + 1)) (bestAs n held₀) (take i letters)))
 
 abbrev extend-μ-loop : extend-lts.MeasureT-loop
-extend-μ-loop p products n letters ones counts least level prefix count held₀ i₀ held i = length letters - i
+extend-μ-loop family p products n letters ones counts least level prefix count held₀ i₀ held i = length letters - i
 
-extend-add-if1 : (t : ℕ) → extend-lts.Need-add-if1 (extend-given t) (extend-at t) extend.Post extend-Inv-loop extend-μ-loop
-extend-add-if1 t c = search needs
+extend-add-is-forced : (t : ℕ) → extend-lts.Need-add-is-forced (extend-given t) (extend-at t) extend.Post extend-Inv-loop extend-μ-loop
+extend-add-is-forced t c = search needs
+
+extend-is-forced-requires : (t : ℕ) → extend-lts.Need-is-forced-requires (extend-given t) (extend-at t) extend.Post extend-Inv-loop extend-μ-loop
+extend-is-forced-requires t c κs = search needs
+
+-- the start, from where the last letter may be forced
+abbrev start-at : (t : ℕ) → extend-lts.After-is-forced (extend-given t) (extend-at t) extend.Post extend-Inv-loop extend-μ-loop
+    → extend-lts.Start (extend-given t) (extend-at t) extend.Post extend-Inv-loop extend-μ-loop
+start-at t c = c .before .before
+
+-- it is: the place is the last
+last-place : (t : ℕ) (c : extend-lts.Then1 (extend-given t) (extend-at t) extend.Post extend-Inv-loop extend-μ-loop)
+    → start-at t (c .before) .args .level + 1 ≡ start-at t (c .before) .args .n
+last-place t c =
+    let s = start-at t (c .before) in
+    eqb-true _ _ (forced-last (s .args .family) _ (sym (c .before .is-forced .ensures) ∙ c .if1 .taken))
+
+-- and that letter alone may be the last
+only-letter : (t : ℕ) (c : extend-lts.After-last-letter (extend-given t) (extend-at t) extend.Post extend-Inv-loop extend-μ-loop)
+    → let s = start-at t (c .before .before) in OnlyLast (cutsOf (s .args .family) (s .args .p) (s .args .n)) (take (s .args .level) (s .args .prefix)) (c .last-letter .result)
+only-letter t c =
+    let s = start-at t (c .before .before) in
+    family-forced (s .args .family) _ _ _ _ _ (sym (c .before .before .is-forced .ensures) ∙ c .before .if1 .taken) (c .last-letter .ensures)
 
 extend-last-letter-requires : (t : ℕ) → extend-lts.Need-last-letter-requires (extend-given t) (extend-at t) extend.Post extend-Inv-loop extend-μ-loop
 extend-last-letter-requires t c κs =
-    let s = c .before .before in
+    let s = start-at t (c .before) in
     omega (arith, s .pre .1 .0 .inside, s .pre .1 .0 .brief .most)
 
 extend-cast-if2 : (t : ℕ) → extend-lts.Need-cast-if2 (extend-given t) (extend-at t) extend.Post extend-Inv-loop extend-μ-loop
@@ -277,30 +301,33 @@ extend-element-copy-out-if2 t c = search needs
 
 extend-returns : (t : ℕ) → extend-lts.Need-returns (extend-given t) (extend-at t) extend.Post extend-Inv-loop extend-μ-loop
 extend-returns t c =
-    let s = c .before .before .before .before .before in
-    let x = c .before .before .last-letter in
-    last-left (s .pre .1 .0) (c .before .before .before .if1 .taken) (x .result) (omega (arith, x .ok)) (only-last _ _ _ (x .result) (x .ensures)) (c .if2 .taken)
+    let l = c .before .before in
+    let s = start-at t (l .before .before) in
+    let x = l .last-letter in
+    last-left (s .pre .1 .0) (last-place t (l .before)) (x .result) (omega (arith, x .ok)) (only-letter t l) (c .if2 .taken)
 
 extend-branch-requires : (t : ℕ) → extend-lts.Need-branch-requires (extend-given t) (extend-at t) extend.Post extend-Inv-loop extend-μ-loop
 extend-branch-requires t c κs =
-    let s = c .before .before .before .before .before in
-    let x = c .before .before .last-letter in
+    let l = c .before .before in
+    let s = start-at t (l .before .before) in
+    let x = l .last-letter in
     let n = s .args .n in
     let level = s .args .level in
     let same : thrice (n - level) + 2 ≡ t = s .pre .0 in
     let less : thrice (n - level) + 1 < t = omega arith in
-    let letter = last-taken (s .pre .1 .0) (c .before .before .before .if1 .taken) (x .result) (omega (arith, x .ok)) (only-last _ _ _ (x .result) (x .ensures)) (c .if2 .left) in
+    let letter = last-taken (s .pre .1 .0) (last-place t (l .before)) (x .result) (omega (arith, x .ok)) (only-letter t l) (c .if2 .left) in
     (less, (s .pre .1 .0, letter, s .pre .1 .1, s .pre .1 .2))
 
 extend-returns-2 : (t : ℕ) → extend-lts.Need-returns-2 (extend-given t) (extend-at t) extend.Post extend-Inv-loop extend-μ-loop
 extend-returns-2 t c =
-    let s = c .before .before .before .before .before .before in
-    let x = c .before .before .before .last-letter in
-    last-row (s .pre .1 .0) (c .before .before .before .before .if1 .taken) (x .result) (omega (arith, x .ok)) (only-last _ _ _ (x .result) (x .ensures)) (c .before .if2 .left) (c .branch .result) (c .branch .ensures)
+    let l = c .before .before .before in
+    let s = start-at t (l .before .before) in
+    let x = l .last-letter in
+    last-row (s .pre .1 .0) (last-place t (l .before)) (x .result) (omega (arith, x .ok)) (only-letter t l) (c .before .if2 .left) (c .branch .result) (c .branch .ensures)
 
 extend-loop-holds : (t : ℕ) → extend-lts.Need-loop-holds (extend-given t) (extend-at t) extend.Post extend-Inv-loop extend-μ-loop
 extend-loop-holds t c =
-    let s = c .before .before in
+    let s = start-at t (c .before) in
     (zero-le, upto-none (s .pre .1 .0))
 
 extend-shared-slice-read-a : (t : ℕ) → extend-lts.Need-shared-slice-read-a (extend-given t) (extend-at t) extend.Post extend-Inv-loop extend-μ-loop
@@ -308,14 +335,15 @@ extend-shared-slice-read-a t c = search needs
 
 extend-branch-requires-2 : (t : ℕ) → extend-lts.Need-branch-requires-2 (extend-given t) (extend-at t) extend.Post extend-Inv-loop extend-μ-loop
 extend-branch-requires-2 t c κs =
-    let s = c .before .before .before .before .before in
+    let free = c .before .before .before in
+    let s = start-at t (free .before) in
     let n = s .args .n in
     let level = s .args .level in
     let at = c .before .before .loop in
-    let long : length (s .args .best .row) ≡ 8 = search (needs, s .good .1 .1 .1 .1 .1 .1 .1 .1 .1 .1 .0) in
+    let long : length (s .args .best .row) ≡ 8 = search (needs, s .good .1 .1 .1 .1 .1 .1 .1 .1 .1 .1 .1 .0) in
     let same : thrice (n - level) + 2 ≡ t = s .pre .0 in
     let less : thrice (n - level) + 1 < t = omega arith in
-    let letter = upto-letter (s .pre .1 .0) (c .before .before .before .if1 .left) (at .i) (c .before .loop-test .taken) in
+    let letter = upto-letter (s .pre .1 .0) (λ a e. family-free (s .args .family) _ a _ _ (sym (free .before .is-forced .ensures) ∙ free .if1 .left) e) (at .i) (c .before .loop-test .taken) in
     (less, (upto-at (s .pre .1 .0) long (at .i) (at .held) (at .inv .1), letter, s .pre .1 .1, s .pre .1 .2))
 
 extend-add-i : (t : ℕ) → extend-lts.Need-add-i (extend-given t) (extend-at t) extend.Post extend-Inv-loop extend-μ-loop
@@ -326,15 +354,15 @@ extend-loop-less t c = search needs
 
 extend-loop-again : (t : ℕ) → extend-lts.Need-loop-again (extend-given t) (extend-at t) extend.Post extend-Inv-loop extend-μ-loop
 extend-loop-again t c =
-    let s = c .before .before .before .before .before .before in
+    let s = c .before .before .before .before .before .before .before in
     let at = c .before .before .before .loop in
     let less = c .before .before .loop-test .taken in
-    let long : length (s .args .best .row) ≡ 8 = search (needs, s .good .1 .1 .1 .1 .1 .1 .1 .1 .1 .1 .0) in
+    let long : length (s .args .best .row) ≡ 8 = search (needs, s .good .1 .1 .1 .1 .1 .1 .1 .1 .1 .1 .1 .0) in
     (omega (arith, less), upto-more (s .pre .1 .0) long (at .i) (at .held) (at .inv .1) less (c .branch2 .result) (c .branch2 .ensures))
 
 extend-returns-3 : (t : ℕ) → extend-lts.Need-returns-3 (extend-given t) (extend-at t) extend.Post extend-Inv-loop extend-μ-loop
 extend-returns-3 t c =
-    let s = c .before .before .before .before in
+    let s = c .before .before .before .before .before in
     let at = c .before .loop in
     let all : at .i ≡ length (s .args .letters .now) = omega arith in
     upto-all (s .pre .1 .0) (at .i) all (at .held) (at .inv .1)
@@ -362,7 +390,8 @@ pub +branch+extend+grow-spec : {M : Type 1} → statement M
     extend.Post
     extend-Inv-loop
     extend-μ-loop
-    (extend-add-if1 t)
+    (extend-add-is-forced t)
+    (extend-is-forced-requires t)
     (extend-last-letter-requires t)
     (extend-cast-if2 t)
     (extend-element-copy-out-if2 t)
@@ -391,7 +420,7 @@ pub +branch+extend+grow-spec : {M : Type 1} → statement M
     (grow-add-bound t)
     (grow-is-heavy-requires t)
     (grow-returns t)
-    (grow-planes-pass-requires t)
+    (grow-blocks-pass-requires t)
     (grow-returns-2 t)
     (grow-finish-requires t)
     (grow-extend-requires t)

@@ -1,27 +1,23 @@
 -- `search::prefix::finish` meets its contract. Assumes nothing.
-use mathlib.Core.Path.{_≡_, sym, ap, _∙_}
+use mathlib.Core.Path.{sym, ap, _∙_}
 use mathlib.Core.Bool.{cond}
-use native.Mathlib.Omega.{arith}
-use lib.ListN.{length, take}
+use lib.ListN.{take}
 use Rattle.search.specs.Lightest.{found}
 use Rattle.search.specs.Steps.Prefix.{kept, bestAs}
-use Rattle.search.proofs.HadamardCuts.{order-most, order-least, last-one}
+use Rattle.search.proofs.Families.{family-most}
 use Rattle.search.proofs.Prefixes.{kept-row}
 use borrow.Author.Needs.{needs}
 use Rattle.search.proofs.prefix.finish.Statement.{statement}
 use Rattle.search.proofs.prefix.finish.Tie as tie
 
 is-good-requires : tie.Need-is-good-requires
-is-good-requires c κs =
-    let w = c .pre .0 in
-    let n = c .args .n in
-    let eight : length (c .args .row) ≡ 8 = search needs in
-    (w .modulus, w .order, w .inField, last-one (c .args .row) n (order-least n (w .order)) (omega (arith, order-most n (w .order))) (w .ends), w .stands, c .pre .4)
+is-good-requires c κs = (c .pre .0, c .pre .4)
 
 line-figure-requires : tie.Need-line-figure-requires
 line-figure-requires c κs =
-    let pre = c .before .before .pre in
-    (pre .0 .modulus, order-most _ (pre .0 .order), pre .0 .inField, pre .1, pre .2)
+    let s = c .before .before in
+    let pre = s .pre in
+    (pre .0 .modulus, family-most (s .args .family) (s .args .n) (pre .0 .order), pre .0 .inField, pre .1, pre .2)
 
 depth-requires : tie.Need-depth-requires
 depth-requires c κs = search needs

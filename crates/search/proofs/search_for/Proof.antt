@@ -1,4 +1,4 @@
--- `search::search` meets its contract: what the polynomial is refused for, the search is. Assumes nothing.
+-- `search::search_for` meets its contract: what the polynomial is refused for, the search is. Assumes nothing.
 use mathlib.Core.Path.{_∙_}
 use Rattle.refusal.proofs.Faults.{outcome-refused}
 use Rattle.field.specs.Polynomial.{Modulus}
@@ -6,8 +6,8 @@ use Rattle.field.specs.Faults.{polynomialFaults}
 use Rattle.field.proofs.Calls.{degree-modulus, modulus-fits}
 use Rattle.search.specs.Answer.{noRow, searchFaults, searchAnswer}
 use borrow.Author.Needs.{needs}
-use Rattle.search.proofs.search.Statement.{statement}
-use Rattle.search.proofs.search.Tie as tie
+use Rattle.search.proofs.search_for.Statement.{statement}
+use Rattle.search.proofs.search_for.Tie as tie
 
 checked-degree-requires : tie.Need-checked-degree-requires
 checked-degree-requires c κs = search needs
@@ -40,8 +40,8 @@ returns c =
 returns-2 : tie.Need-returns-2
 returns-2 c = c .search-over .ensures
 
-pub search-spec : {M : Type 1} → statement M
-search-spec =
+pub search-for-spec : {M : Type 1} → statement M
+search-for-spec =
     tie.close
     (tie.spec
     checked-degree-requires
