@@ -15,27 +15,28 @@ use Rattle.refusal.proofs.Faults.{first-passed, applies-most, none-first}
 use Rattle.field.specs.Polynomial.{Modulus, degree}
 use Rattle.field.specs.Table.{polynomials}
 use Rattle.field.proofs.Calls.{not-too-large, modulus-parts}
-use Rattle.matrix.specs.Answers.{checkOf, isWrongOrder}
-use Rattle.matrix.proofs.Tallies.{rowCount-le}
+use Rattle.lines.proofs.Tallies.{rowCount-le}
+use Rattle.checks.specs.Answers.{checkOf, isWrongOrder}
+use Rattle.checks.proofs.CallFaults.{order-passes}
 use Rattle.gates.specs.Gates.{Gate, gate, gatesOfMatrix, carriersOfMatrix}
 use Rattle.gates.specs.Netlist.{Netlist}
 use Rattle.gates.proofs.Netlists.{bits-few, gates-few, netlist}
-use Rattle.search.specs.declared.Family.{Family}
-use Rattle.search.specs.Answer.{sumOf, someTooLarge}
-use Rattle.search.specs.Demands.{countOfRow}
-use Rattle.search.proofs.LetterCounts.{fits-at}
+use Rattle.rows.specs.declared.Family.{Family}
+use Rattle.rows.specs.Keys.{sumOf}
+use Rattle.rows.specs.Demands.{countOfRow}
+use Rattle.rows.specs.Candidates.{someTooLarge}
+use Rattle.lightest.proofs.LetterCounts.{fits-at}
 use Rattle.text.specs.Text.{SixDigits, answerText}
 use Rattle.text.proofs.Form.{six-none, six-more}
-use Rattle.answer.specs.Due.{Request, Kind, rowLines, search, checkFaults, entriesOf, checkLines, check, surveyFaults, surveyLine, surveyLines, survey, gateLine, carrierLine, gateLines, gates, requestIn, faultsOf, due}
-use Rattle.answer.specs.Answered.{Answered}
+use Rattle.reply.specs.Due.{Request, Kind, rowLines, search, checkFaults, entriesOf, checkLines, check, surveyFaults, surveyLine, surveyLines, survey, gateLine, carrierLine, gateLines, gates, requestIn, faultsOf, due}
+use Rattle.reply.specs.Answered.{Answered}
 use Rattle.answer.proofs.EveryKind.{unknown, kind-holds, faults-to-nine, due-number, due-lines-of, due-passed}
 use Rattle.answer.proofs.Demands.{FirstFault, at-fault, with-room, without-room, first-fault}
-use Rattle.answer.proofs.Replies.{one-length, two-length}
-use Rattle.answer.proofs.GateLines.{gate-lines-short}
-use Rattle.answer.proofs.Surveys.{survey-length, six-survey, starts-few, polynomials-few, polynomials-modulus}
-use Rattle.matrix.proofs.CallFaults.{order-passes}
-use Rattle.answer.proofs.Values.{place-below, degree-passed, six-check}
-use Rattle.answer.proofs.Found.{search-accepted, sum-le, six-row}
+use Rattle.reply.proofs.Replies.{one-length, two-length}
+use Rattle.answer_matrix.proofs.GateLines.{gate-lines-short}
+use Rattle.answer_survey.proofs.Surveys.{survey-length, six-survey, starts-few, polynomials-few, polynomials-modulus}
+use Rattle.reply.proofs.Values.{place-below, degree-passed, six-check}
+use Rattle.answer_row.proofs.Found.{search-accepted, sum-le, six-row}
 
 -- the lines of an accepted request fit their columns and the program's space
 pub record Fitting (l : List (List ℕ)) : Type 0 where

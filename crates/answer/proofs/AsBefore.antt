@@ -9,24 +9,24 @@ use Prim.Native.Nat.{ℕ, zero, suc, _+_, _*_, _<_}
 use native.Mathlib.Omega.{arith}
 use lib.Dec.{eqb}
 use lib.ListN.{getD}
-use Rattle.algebra.specs.Matrix.{branchNumber, isMds, isInvolution}
 use Rattle.refusal.specs.Refusals.{fault, firstNumber, Answer, answer, unlessRefused, answerAfter}
 use Rattle.refusal.proofs.Faults.{first-passed, after-number-is}
-use Rattle.matrix.specs.Numbers.{numbers, elements}
-use Rattle.matrix.specs.Answers.{yesNo, checkOf}
-use Rattle.matrix.proofs.CountsBefore.{rowCountBefore, matrixCountBefore, line-as-before, matrix-as-before}
-use Rattle.search.specs.declared.Family.the-variants.{Hadamard, Circulant}
-use Rattle.search.specs.Lightest.{Best, nothing, found}
-use Rattle.search.specs.Shape.{hadamardShape}
-use Rattle.search.specs.Answer.{sumOf, lightestRow}
-use Rattle.search.proofs.Demands.{NoZero}
-use Rattle.search.proofs.Rows.{getD-mem}
+use Rattle.algebra.specs.Matrix.{branchNumber, isMds, isInvolution}
+use Rattle.lines.specs.Numbers.{numbers, elements}
+use Rattle.lines.proofs.CountsBefore.{rowCountBefore, matrixCountBefore, line-as-before, matrix-as-before}
+use Rattle.checks.specs.Answers.{yesNo, checkOf}
+use Rattle.rows.specs.declared.Family.the-variants.{Hadamard, Circulant}
+use Rattle.rows.specs.Lightest.{Best, nothing, found}
+use Rattle.rows.specs.Shape.{hadamardShape}
+use Rattle.rows.specs.Keys.{sumOf, lightestRow}
+use Rattle.rows.proofs.Demands.{NoZero}
+use Rattle.rows.proofs.Rows.{getD-mem}
 use Rattle.text.specs.Reading.{inForm, kindOf, valuesOf}
-use Rattle.answer.specs.Due.{Request, Kind, rowLines, search, entriesOf, checkLines, check, survey, gates, kinds, kindAmong, kindIn, requestIn, faultsOf, due}
-use Rattle.answer.specs.Answered.{textOf}
+use Rattle.reply.specs.Due.{Request, Kind, rowLines, search, entriesOf, checkLines, check, survey, gates, kinds, kindAmong, kindIn, requestIn, faultsOf, due}
+use Rattle.reply.specs.Answered.{textOf}
 use Rattle.answer.proofs.EveryKind.{kind-number}
-use Rattle.answer.proofs.Found.{search-accepted}
-use Rattle.answer.proofs.Values.{place-below}
+use Rattle.answer_row.proofs.Found.{search-accepted}
+use Rattle.reply.proofs.Values.{place-below}
 use Rattle.answer.proofs.Acceptance.{check-accepted}
 
 -- ---- what was due

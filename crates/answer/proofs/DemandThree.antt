@@ -16,14 +16,14 @@ use Rattle.refusal.specs.Refusals.{fault, firstNumber, Applies, Answer, answerA
 use Rattle.refusal.proofs.Faults.{first-applies, first-none, first-lowest, applies-above, applies-most, none-first, after-taken, after-left, after-empty}
 use Rattle.refusal.specs.declared.Refusal.the-variants.{NoRow as NoRowReason}
 use Rattle.algebra.proofs.Sums.{le-or-lt}
-use Rattle.search.specs.declared.Family.{Family}
-use Rattle.search.specs.Lightest.{Best, nothing, found}
+use Rattle.rows.specs.declared.Family.{Family}
+use Rattle.rows.specs.Lightest.{Best, nothing, found}
+use Rattle.rows.proofs.Demands.{demand-three, demand-three-none, demand-three-only}
 use Rattle.search.specs.Answer.{isNone}
-use Rattle.search.proofs.Demands.{demand-three, demand-three-none, demand-three-only}
 use Rattle.text.specs.Text.{lineText, answerText}
 use Rattle.text.specs.Reading.{kindOf, polynomialOf, orderOf}
-use Rattle.answer.specs.Due.{searchNumber, rowLines, bestLines, faultsOf, due}
-use Rattle.answer.specs.Answered.{numberReturned, lengthReturned, writtenAt, Replied, Answered}
+use Rattle.reply.specs.Due.{searchNumber, rowLines, bestLines, faultsOf, due}
+use Rattle.reply.specs.Answered.{numberReturned, lengthReturned, writtenAt, Replied, Answered}
 use Rattle.answer.specs.Demands.{WellFormedSearch, NoRow, DemandedBy, rowText, SearchDue, row-due, none-due, RowFits, RowTooLong, RowStands, SearchAnswered, Faultless, Lowest, refused, none, accepted, too-short}
 use Rattle.answer.proofs.EveryKind.{faults-numbered, faults-ascend, faults-to-nine, nine-is-search, due-number}
 use Rattle.answer.proofs.Demands.{FirstFault, at-fault, with-room, without-room, first-fault}

@@ -16,8 +16,8 @@ use Rattle.refusal.specs.Refusals.{firstNumber, Applies}
 use Rattle.refusal.proofs.Faults.{first-applies, first-none, first-lowest}
 use Rattle.text.specs.Text.{lineText, answerText}
 use Rattle.text.proofs.Lengths.{length-line}
-use Rattle.answer.specs.Due.{faultsOf, due}
-use Rattle.answer.specs.Answered.{textOf, numberReturned, lengthReturned, writtenAt, Answered}
+use Rattle.reply.specs.Due.{faultsOf, due}
+use Rattle.reply.specs.Answered.{textOf, numberReturned, lengthReturned, writtenAt, Answered}
 use Rattle.answer.specs.Demands.{OneAnswer, BytesLeft, AnySpace}
 use Rattle.answer.proofs.EveryKind.{faults-numbered, faults-ascend, due-number, due-most}
 

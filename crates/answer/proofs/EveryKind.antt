@@ -10,12 +10,12 @@ use borrow.Author.Tests.{eqb-true}
 use Rattle.refusal.specs.Refusals.{fault, firstNumber, Applies}
 use Rattle.refusal.proofs.Faults.{first-applies, first-passed, numbered, ascends, most, applies-most, lacks, lacks-applies, after-number-is, after-value}
 use Rattle.field.specs.Faults.{polynomialFaults}
-use Rattle.search.specs.declared.Family.{Family}
-use Rattle.search.specs.declared.Family.the-variants.{Hadamard, Circulant}
+use Rattle.rows.specs.declared.Family.{Family}
+use Rattle.rows.specs.declared.Family.the-variants.{Hadamard, Circulant}
 use Rattle.search.specs.Answer.{searchFaults}
 use Rattle.text.specs.Reading.{kindOf}
-use Rattle.answer.proofs.DueFrom.{kind-search}
-use Rattle.answer.specs.Due.{Request, Kind, checkFaults, surveyFaults, searchNumber, search, check, survey, gates, kinds, kindAmong, kindIn, requestIn, faultsOf, due}
+use Rattle.reply.proofs.DueFrom.{kind-search}
+use Rattle.reply.specs.Due.{Request, Kind, checkFaults, surveyFaults, searchNumber, search, check, survey, gates, kinds, kindAmong, kindIn, requestIn, faultsOf, due}
 
 -- a kind that no text has: 2 applies
 abbrev pub unknown : ℕ → Kind

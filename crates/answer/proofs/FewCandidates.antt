@@ -4,11 +4,11 @@ use mathlib.Core.List.{List}
 use Prim.Native.Nat.{ℕ, _<_}
 use native.Mathlib.Omega.{arith}
 use lib.ListN.{length}
-use Rattle.search.specs.declared.Family.the-variants.{Hadamard}
-use Rattle.search.proofs.FewCandidates.{few-candidates}
+use Rattle.rows.specs.declared.Family.the-variants.{Hadamard}
+use Rattle.rows.proofs.FewCandidates.{few-candidates}
 use Rattle.text.specs.Reading.{polynomialOf, orderOf, valuesOf}
-use Rattle.answer.specs.Due.{due}
-use Rattle.answer.specs.Answered.{Answered}
+use Rattle.reply.specs.Due.{due}
+use Rattle.reply.specs.Answered.{Answered}
 use Rattle.answer.specs.Demands.{WellFormedSearch, NoRow}
 use Rattle.answer.proofs.WellFormed.{passed}
 use Rattle.answer.proofs.DemandThree.{none-exactly, none-answered}

@@ -9,12 +9,12 @@ use Rattle.field.specs.Polynomial.{degree}
 use Rattle.gates.proofs.Netlists.{netlist}
 use Rattle.text.specs.Text.{answerText}
 use Rattle.text.specs.Reading.{kindOf, polynomialOf, orderOf, valuesOf}
-use Rattle.answer.specs.Due.{entriesOf, gateLines, gates, kindIn, requestIn, due}
+use Rattle.reply.specs.Due.{entriesOf, gateLines, gates, kindIn, requestIn, due}
 use Rattle.answer.specs.Demands.{matrixIn, GatesAnswered}
-use Rattle.answer.proofs.DueFrom.{kind-gates}
+use Rattle.reply.proofs.DueFrom.{kind-gates}
 use Rattle.answer.proofs.EveryKind.{due-lines-of, due-passed}
-use Rattle.answer.proofs.Values.{place-below}
-use Rattle.answer.proofs.GateLines.{gate-lines-length}
+use Rattle.reply.proofs.Values.{place-below}
+use Rattle.answer_matrix.proofs.GateLines.{gate-lines-length}
 use Rattle.answer.proofs.Acceptance.{CheckAccepted, check-accepted, answer-short}
 
 module _ (text : List ℕ) (kind : kindOf text ≡ 4) (accepted : due text .number ≡ 0) where

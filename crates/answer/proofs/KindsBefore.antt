@@ -11,9 +11,9 @@ use borrow.Author.Tests.{ne-eqb}
 use Rattle.refusal.specs.Refusals.{fault, Answer, answer, answerAfter}
 use Rattle.refusal.specs.declared.Refusal.the-variants.{Kind as UnknownKind}
 use Rattle.refusal.proofs.Faults.{after-taken, after-left}
-use Rattle.search.specs.declared.Family.the-variants.{Hadamard, Circulant}
+use Rattle.rows.specs.declared.Family.the-variants.{Hadamard, Circulant}
 use Rattle.text.specs.Reading.{inForm, kindOf}
-use Rattle.answer.specs.Due.{Kind, search, check, survey, gates, kinds, kindAmong, kindIn, requestIn, faultsOf, due}
+use Rattle.reply.specs.Due.{Kind, search, check, survey, gates, kinds, kindAmong, kindIn, requestIn, faultsOf, due}
 
 -- what is due to a text by a kind, and by a table of kinds
 abbrev dueBy : List ℕ → Kind → Answer (List (List ℕ))

@@ -1,10 +1,4 @@
--- Laws of what is due, and the demands by name.
-pub mod DueFrom
-pub mod Replies
-pub mod Values
-pub mod Found
-pub mod Surveys
-pub mod GateLines
+-- The promises of every request text, by name.
 pub mod EveryKind
 pub mod Limits
 pub mod Demands

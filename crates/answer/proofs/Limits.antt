@@ -14,18 +14,18 @@ use Rattle.refusal.specs.Refusals.{fault, Applies}
 use Rattle.refusal.proofs.Faults.{fault-here, fault-cases}
 use Rattle.refusal.proofs.Tests.{never-passes, below-exactly, same-exactly, not-exactly, or-exactly}
 use Rattle.field.proofs.Limits.{call-exactly, stated-most}
-use Rattle.matrix.proofs.Limits.{order-exactly}
-use Rattle.search.specs.declared.Family.{Family}
-use Rattle.search.specs.declared.Family.the-variants.{Hadamard, Circulant}
+use Rattle.checks.proofs.Limits.{order-exactly}
+use Rattle.rows.specs.declared.Family.{Family}
+use Rattle.rows.specs.declared.Family.the-variants.{Hadamard, Circulant}
 use Rattle.search.specs.Stated.{StatedFor}
 use Rattle.search.proofs.Limits.{some-too-large-exactly, search-exactly}
 use Rattle.text.specs.Text.{InForm}
 use Rattle.text.specs.Reading.{inForm, kindOf}
 use Rattle.text.proofs.Requests.{in-form-exactly}
-use Rattle.answer.specs.Due.{Request, Kind, checkFaults, surveyFaults, searchNumber, search, check, survey, gates, kinds, kindAmong, kindIn, requestIn, faultsOf}
+use Rattle.reply.specs.Due.{Request, Kind, checkFaults, surveyFaults, searchNumber, search, check, survey, gates, kinds, kindAmong, kindIn, requestIn, faultsOf}
 use Rattle.answer.specs.Limits.{CheckStated, SurveyStated, wrong-degree, order-not-zero, count-not-zero, RequestStated, no-kind, of-search, of-check, of-survey, of-gates, StatedOf, not-in-form, of-request}
 use Rattle.answer.specs.Demands.{WellFormedSearch}
-use Rattle.answer.proofs.DueFrom.{kind-search, kind-check, kind-survey, kind-gates}
+use Rattle.reply.proofs.DueFrom.{kind-search, kind-check, kind-survey, kind-gates}
 use Rattle.answer.proofs.EveryKind.{unknown}
 
 -- ---- a check

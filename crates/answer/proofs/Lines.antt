@@ -11,10 +11,10 @@ use lib.Dec.{leb, lit≤}
 use Prim.Native.String.{String}
 use lib.ListN.{length}
 use borrow.Author.Tests.{leb-true}
-use Rattle.algebra.specs.Matrix.{tabulate, upTo, before, words, sum, apply, skip, without, circulant, det, weight, activity, leastActivity, branchNumber, isMds, sameWords, givesBack, isInvolution}
-use Rattle.algebra.proofs.Involution.{and-left, and-right}
 use Rattle.refusal.specs.Refusals.{fault, firstNumber, Answer, answer, unlessRefused, answerAfter}
 use Rattle.refusal.proofs.Faults.{after-left, after-number-is}
+use Rattle.algebra.specs.Matrix.{tabulate, upTo, before, words, sum, apply, skip, without, circulant, det, weight, activity, leastActivity, branchNumber, isMds, sameWords, givesBack, isInvolution}
+use Rattle.algebra.proofs.Involution.{and-left, and-right}
 use lib.Count.{ones, onesIn}
 use Rattle.field.specs.Polynomial.{_⊕_, _⊗_, digitsWithin, overDigits, degree, reduce, rem, product, onesInColumns, xorCount, someBelow, Irreducible, isIrreducible, Modulus, firstBelow}
 use Rattle.field.specs.Doubling.{xtime, doubled, sumAfter}
@@ -22,27 +22,29 @@ use Rattle.field.proofs.Irreducibility.{irreducible-to}
 use Rattle.field.proofs.Calls.{modulus-passed}
 use Rattle.field.specs.Table.{polynomials, passing}
 use Rattle.field.specs.Faults.{isOutside, isTooLarge, polynomialFaults, inverseFaults}
-use Rattle.matrix.specs.Numbers.{elements}
-use Rattle.matrix.specs.Counts.{total, elementCount, additionCount, rowCount, matrixCount}
-use Rattle.matrix.specs.Answers.{checkOf, isWrongOrder, isWrongHalvedOrder, someWordTooLarge, someEntryTooLarge, determinantFaults, matrixFaults, halvedFaults}
-use Rattle.matrix.specs.Depths.{bit, onesInLine, outputOnes, depthOf, greatest, lineDepth}
+use Rattle.lines.specs.Numbers.{elements}
+use Rattle.lines.specs.Counts.{total, elementCount, additionCount, rowCount, matrixCount}
+use Rattle.lines.specs.Depths.{bit, onesInLine, outputOnes, depthOf, greatest, lineDepth}
+use Rattle.checks.specs.Answers.{checkOf, isWrongOrder, isWrongHalvedOrder, someWordTooLarge, someEntryTooLarge, determinantFaults, matrixFaults, halvedFaults}
 use Rattle.gates.specs.Gates.{isInput, inputsOf, outputs, joining, gatesOf, carrierOf, gatesFrom, carriersFrom, gatesOfMatrix, carriersOfMatrix}
 use Rattle.gates.specs.Wires.{wires, carriedBit, evaluate}
-use Rattle.search.specs.Lightest.{member, Best, nothing, found}
-use Rattle.search.specs.declared.Family.{Family}
-use Rattle.search.specs.declared.Family.the-variants.{Hadamard, Circulant}
-use Rattle.search.specs.Shape.{shapeOf}
-use Rattle.search.specs.Answer.{isWrongSearchOrder, isWrongSearchCount, isWrongCirculantOrder, isWrongCirculantCount, someTooLarge, someRepeated, someBad, sumOf, depthOfRow, lightestRow, searchFaults, isWrongOrderFor, isWrongCountFor, isNone}
-use Rattle.search.proofs.Executable.{two-eighty-three, over-nineteen, by-depth-rows, around-rows}
-use Rattle.search.proofs.Rows.{not-passed}
+use Rattle.rows.specs.Lightest.{member, Best, nothing, found}
+use Rattle.rows.specs.declared.Family.{Family}
+use Rattle.rows.specs.declared.Family.the-variants.{Hadamard, Circulant}
+use Rattle.rows.specs.Shape.{shapeOf}
+use Rattle.rows.specs.Keys.{sumOf, depthOfRow, lightestRow}
+use Rattle.rows.proofs.Executable.{two-eighty-three, over-nineteen, by-depth-rows, around-rows}
+use Rattle.rows.proofs.Rows.{not-passed}
+use Rattle.rows.specs.Candidates.{someTooLarge, someRepeated, someBad}
+use Rattle.search.specs.Answer.{isWrongSearchOrder, isWrongSearchCount, isWrongCirculantOrder, isWrongCirculantCount, searchFaults, isWrongOrderFor, isWrongCountFor, isNone}
 use Rattle.text.specs.Reading.{inForm}
 use Rattle.text.specs.Text.{columnByte, column, columns, lineText, lineEnd, valueText, requestText, answerText, SixDigits}
 use Rattle.text.proofs.Lengths.{length-request}
 use Rattle.text.proofs.Form.{six-none, six-more}
 use Rattle.text.proofs.Requests.{ReadAs, written-read}
-use Rattle.answer.specs.Due.{Kind, request, searchNumber, rowLines, bestLines, search, checkFaults, entriesOf, checkLines, check, surveyFaults, surveyLine, surveyLines, survey, gateLines, gates, kinds, kindAmong, dueTo, kindIn, requestIn, faultsOf, due}
-use Rattle.answer.specs.Answered.{textOf}
-use Rattle.answer.proofs.DueFrom.{kind-search}
+use Rattle.reply.specs.Due.{Kind, request, searchNumber, rowLines, bestLines, search, checkFaults, entriesOf, checkLines, check, surveyFaults, surveyLine, surveyLines, survey, gateLines, gates, kinds, kindAmong, dueTo, kindIn, requestIn, faultsOf, due}
+use Rattle.reply.specs.Answered.{textOf}
+use Rattle.reply.proofs.DueFrom.{kind-search}
 use Rattle.answer.specs.Reference.{ReferenceLine, texts, power, ReferenceSays, AllReferenceSay, all-none, _and_, elementLines, productSteps, searches, depthLines, checks, surveys, surveyTexts, gateLists, gateTexts, circulantLines, circulantTexts, refusals, from-one, limits, bytesOf, example, referenceLines}
 
 -- ---- from the numbers of a request to its text

@@ -5,18 +5,18 @@ use mathlib.Core.List.{List, [], _∷_}
 use Prim.Native.Nat.{ℕ, _*_}
 use lib.ListN.{getD}
 use Rattle.algebra.specs.Matrix.{hadamard, circulant}
-use Rattle.matrix.specs.Numbers.{numbers}
-use Rattle.matrix.specs.Counts.{rowCount, matrixCount}
-use Rattle.matrix.proofs.Tallies.{hadamard-count, equal-lines, rowCount-permuted}
-use Rattle.search.specs.declared.Family.{Family}
-use Rattle.search.specs.declared.Family.the-variants.{Hadamard, Circulant}
-use Rattle.search.specs.Answer.{sumOf}
-use Rattle.search.specs.Demands.{countOfRow, Demanded}
-use Rattle.search.specs.Steps.Families.{OrderOf}
 use Rattle.algebra.proofs.Circulant.{rotation}
-use Rattle.search.proofs.HadamardRows.{power}
+use Rattle.lines.specs.Numbers.{numbers}
+use Rattle.lines.specs.Counts.{rowCount, matrixCount}
+use Rattle.lines.proofs.Tallies.{hadamard-count, equal-lines, rowCount-permuted}
+use Rattle.rows.specs.declared.Family.{Family}
+use Rattle.rows.specs.declared.Family.the-variants.{Hadamard, Circulant}
+use Rattle.rows.specs.Keys.{sumOf}
+use Rattle.rows.specs.Demands.{countOfRow, Demanded}
+use Rattle.rows.specs.Steps.Families.{OrderOf}
+use Rattle.rows.proofs.HadamardRows.{power}
 use Rattle.text.specs.Reading.{kindOf, polynomialOf, orderOf, valuesOf}
-use Rattle.answer.specs.Due.{searchNumber, rowLines, due}
+use Rattle.reply.specs.Due.{searchNumber, rowLines, due}
 use Rattle.answer.proofs.WellFormed.{passed}
 use Rattle.answer.proofs.DemandThree.{accepted-search, accepted-row}
 

@@ -9,8 +9,8 @@ use lib.ListN.{length, take, drop, length-append}
 use lib.Seq.{take-at}
 use Rattle.text.specs.Text.{answerText}
 use Rattle.text.proofs.Lengths.{length-line}
-use Rattle.answer.specs.Due.{due}
-use Rattle.answer.specs.Answered.{textOf, lengthReturned, writtenAt, Answered, Shown}
+use Rattle.reply.specs.Due.{due}
+use Rattle.reply.specs.Answered.{textOf, lengthReturned, writtenAt, Answered, Shown}
 use Rattle.answer.proofs.Acceptance.{answer-short}
 
 -- a text that fits stands at the start

@@ -15,12 +15,12 @@ use Rattle.field.specs.Table.{polynomials}
 use Rattle.field.proofs.Completeness.{Ascends, ascends-places, places-ascend, ascends-same, polynomials-ascend, polynomials-exactly}
 use Rattle.text.specs.Text.{answerText}
 use Rattle.text.specs.Reading.{kindOf, polynomialOf}
-use Rattle.answer.specs.Due.{surveyFaults, surveyLine, surveyLines, survey, kindIn, requestIn, due}
-use Rattle.answer.specs.Answered.{Answered}
+use Rattle.reply.specs.Due.{surveyFaults, surveyLine, surveyLines, survey, kindIn, requestIn, due}
+use Rattle.reply.specs.Answered.{Answered}
 use Rattle.answer.specs.Demands.{SurveyText}
-use Rattle.answer.proofs.DueFrom.{kind-survey}
+use Rattle.reply.proofs.DueFrom.{kind-survey}
 use Rattle.answer.proofs.EveryKind.{due-lines-of, due-passed}
-use Rattle.answer.proofs.Values.{degree-passed}
+use Rattle.reply.proofs.Values.{degree-passed}
 use Rattle.answer.proofs.Demands.{accepted-due, accepted-text}
 
 -- ---- the lines

@@ -11,15 +11,17 @@ use Rattle.refusal.proofs.Faults.{absent, first-left, first-empty, after-left}
 use Rattle.field.specs.Polynomial.{Modulus, degree, isIrreducible}
 use Rattle.field.specs.Faults.{isOutside, polynomialFaults}
 use Rattle.field.proofs.Calls.{number-modulus, not-too-large}
-use Rattle.search.specs.declared.Family.{Family}
-use Rattle.search.specs.Lightest.{Best}
-use Rattle.search.specs.Shape.{shapeOf}
-use Rattle.search.specs.Answer.{isWrongOrderFor, isWrongCountFor, someTooLarge, someBad, isNone, lightestRow, searchFaults}
-use Rattle.search.specs.Steps.Families.{OrderOf}
-use Rattle.search.proofs.LetterCounts.{member-fits}
-use Rattle.search.proofs.Families.{family-order}
+use Rattle.rows.specs.declared.Family.{Family}
+use Rattle.rows.specs.Lightest.{Best}
+use Rattle.rows.specs.Shape.{shapeOf}
+use Rattle.rows.specs.Keys.{lightestRow}
+use Rattle.rows.specs.Steps.Families.{OrderOf}
+use Rattle.rows.specs.Candidates.{someTooLarge, someBad}
+use Rattle.search.specs.Answer.{isWrongOrderFor, isWrongCountFor, isNone, searchFaults}
+use Rattle.lightest.proofs.LetterCounts.{member-fits}
+use Rattle.search.proofs.Refusals.{family-order}
 use Rattle.text.specs.Reading.{inForm, kindOf, polynomialOf, orderOf, valuesOf}
-use Rattle.answer.specs.Due.{searchNumber, bestLines, search, requestIn, faultsOf, due}
+use Rattle.reply.specs.Due.{searchNumber, bestLines, search, requestIn, faultsOf, due}
 use Rattle.answer.specs.Demands.{WellFormedSearch}
 use Rattle.answer.proofs.EveryKind.{kind-is-search}
 use Rattle.answer.proofs.Limits.{well-formed-exactly}

@@ -15,9 +15,9 @@ use Rattle.text.specs.Reading.{numberAt, inForm}
 use Rattle.text.proofs.Compare.{is-false}
 use Rattle.text.proofs.Form.{form-length, length-rewritten, six-none, six-more}
 use Rattle.text.proofs.Requests.{longest-text, written-read}
-use Rattle.answer.specs.Due.{due}
-use Rattle.answer.specs.Answered.{Shown}
-use Rattle.answer.proofs.DueFrom.{text-refused}
+use Rattle.reply.specs.Due.{due}
+use Rattle.reply.specs.Answered.{Shown}
+use Rattle.reply.proofs.DueFrom.{text-refused}
 use Rattle.answer.proofs.Shown.{shown-most}
 
 -- ---- the longest texts

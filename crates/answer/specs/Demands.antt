@@ -6,15 +6,15 @@ use Prim.Native.Nat.{ℕ, _+_, _*_, _≤_, _<_}
 use lib.ListN.{length, getD, take, drop}
 use Rattle.refusal.specs.Refusals.{Answer, answer}
 use Rattle.field.specs.Polynomial.{Irreducible, degree}
-use Rattle.matrix.specs.Counts.{matrixCount}
+use Rattle.lines.specs.Counts.{matrixCount}
 use Rattle.gates.specs.Netlist.{Netlist}
-use Rattle.search.specs.declared.Family.{Family}
-use Rattle.search.specs.Demands.{Asks, Demanded}
+use Rattle.rows.specs.declared.Family.{Family}
+use Rattle.rows.specs.Demands.{Asks, Demanded}
 use Rattle.text.specs.Text.{lineText, answerText}
 use Rattle.text.specs.Reading.{kindOf, polynomialOf, orderOf, valuesOf}
-use Rattle.answer.specs.Due.{searchNumber, rowLines, entriesOf, surveyLine, gateLines, due}
+use Rattle.reply.specs.Due.{searchNumber, rowLines, entriesOf, surveyLine, gateLines, due}
 use Rattle.answer.specs.Limits.{StatedOf}
-use Rattle.answer.specs.Answered.{writtenAt}
+use Rattle.reply.specs.Answered.{writtenAt}
 
 -- ---- demand 1
 

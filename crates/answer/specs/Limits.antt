@@ -7,11 +7,11 @@ use mathlib.Core.List.{List, List·Memᴰ}
 use Prim.Native.Nat.{ℕ, _*_, _<_}
 use lib.ListN.{length}
 use Rattle.field.specs.Stated.{Stated}
-use Rattle.search.specs.declared.Family.{Family}
+use Rattle.rows.specs.declared.Family.{Family}
 use Rattle.search.specs.Stated.{StatedFor}
 use Rattle.text.specs.Text.{InForm}
 use Rattle.text.specs.Reading.{kindOf, polynomialOf, orderOf, valuesOf}
-use Rattle.answer.specs.Due.{searchNumber}
+use Rattle.reply.specs.Due.{searchNumber}
 
 -- a check: order n from 1 to 8, count n·n; zeros and repeats are allowed
 abbrev pub CheckStated : ℕ → ℕ → List ℕ → ℕ → Type 0

@@ -8,21 +8,21 @@ use Prim.Native.Nat.{ℕ, zero, suc, _*_, _/_, _%_}
 use Prim.Native.Char.{code}
 use Prim.Native.String.{String, len, charAt}
 use lib.ListN.{length, replicate}
+use Rattle.refusal.specs.Refusals.{Fault, firstNumber, Answer, answer}
 use Rattle.algebra.specs.Matrix.{tabulate, det, circulant}
 use Rattle.field.specs.Polynomial.{_⊕_, degree, product, xorCount}
 use Rattle.field.specs.Doubling.{doubled, sumAfter}
 use Rattle.field.specs.Faults.{inverseFaults}
-use Rattle.matrix.specs.Numbers.{numbers}
-use Rattle.matrix.specs.Counts.{matrixCount}
-use Rattle.matrix.specs.Depths.{onesInLine, depthOf}
-use Rattle.search.specs.Answer.{depthOfRow}
-use Rattle.matrix.specs.Answers.{determinantFaults, matrixFaults, halvedFaults}
+use Rattle.lines.specs.Numbers.{numbers}
+use Rattle.lines.specs.Counts.{matrixCount}
+use Rattle.lines.specs.Depths.{onesInLine, depthOf}
+use Rattle.checks.specs.Answers.{determinantFaults, matrixFaults, halvedFaults}
 use Rattle.gates.specs.Gates.{gatesOfMatrix, carriersOfMatrix}
 use Rattle.gates.specs.Wires.{evaluate}
-use Rattle.refusal.specs.Refusals.{Fault, firstNumber, Answer, answer}
+use Rattle.rows.specs.Keys.{depthOfRow}
 use Rattle.text.specs.Text.{requestText}
-use Rattle.answer.specs.Due.{entriesOf, due}
-use Rattle.answer.specs.Answered.{textOf}
+use Rattle.reply.specs.Due.{entriesOf, due}
+use Rattle.reply.specs.Answered.{textOf}
 
 -- a line of the table
 pub data ReferenceLine : Type 0 where

@@ -1,23 +1,11 @@
 // One request text to one answer text.
 
 ghost use Rattle.text.specs.Reading.{valuesFrom};
-ghost use Rattle.answer.specs.Due.{request, kinds, kindAmong, dueTo};
-ghost use Rattle.answer.specs.Answered.{Replied, Answered};
-
-mod check;
-mod gate_list;
-mod row;
-mod survey;
-mod write;
-
-use crate::write::refuse;
+ghost use Rattle.reply.specs.Due.{request, kinds, kindAmong, dueTo};
+ghost use Rattle.reply.specs.Answered.{Replied, Answered};
 use refusal::Refusal;
-
-// The number that is returned, 0 where the request is accepted, and the length of the answer, 0 where it is refused.
-pub struct Reply {
-    pub number: u32,
-    pub length: usize,
-}
+use reply::Reply;
+use reply::refuse;
 
 // Answers a request in form by its kind. The values stand in the part of the request text that follows line one.
 fn answer_kind(
@@ -32,9 +20,16 @@ fn answer_kind(
         (now (space .entry)) (now (space .exit)) (r .number) (r .length) ⌝ }
 {
     match kind {
-        1 | 5 => row::search_row(part, space, row::family(kind), polynomial, order, count),
-        2 | 4 => check::of_matrix(part, space, polynomial, order, count, kind == 4),
-        3 => survey::survey(part, space, polynomial, order, count),
+        1 | 5 => answer_row::search_row(
+            part,
+            space,
+            answer_row::family(kind),
+            polynomial,
+            order,
+            count,
+        ),
+        2 | 4 => answer_matrix::of_matrix(part, space, polynomial, order, count, kind == 4),
+        3 => answer_survey::survey(part, space, polynomial, order, count),
         _ => refuse(space, Refusal::Kind),
     }
 }

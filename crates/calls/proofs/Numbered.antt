@@ -5,10 +5,10 @@ use mathlib.Core.List.{List, [], _∷_, _++_, map}
 use Prim.Native.Nat.{ℕ, zero, suc, _+_, _≤_, _<_}
 use native.Mathlib.Omega.{arith}
 use lib.ListN.{length, getD, List·getD-eq-default}
-use Rattle.algebra.proofs.Sums.{le-or-lt}
 use Rattle.refusal.specs.Refusals.{Answer, answerOf}
 use Rattle.refusal.specs.declared.Outcome.{Outcome}
 use Rattle.refusal.specs.declared.Outcome.the-variants.{Value, Refused}
+use Rattle.algebra.proofs.Sums.{le-or-lt}
 use Rattle.search.specs.Answer.{saysOutcome}
 use Rattle.calls.specs.Replies.{valueReply, searchReply, noAnswer, replyTo}
 

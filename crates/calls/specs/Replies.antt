@@ -6,10 +6,10 @@ use Rattle.refusal.specs.Refusals.{Answer, answer, answerAfter}
 use Rattle.algebra.specs.Matrix.{apply, hadamard, det, branchNumber, isMds, isInvolution}
 use Rattle.field.specs.Polynomial.{degree, product, inverse, xorCount}
 use Rattle.field.specs.Faults.{polynomialFaults, productFaults, inverseFaults, countFaults}
-use Rattle.matrix.specs.Numbers.{numbers, elements, entry}
-use Rattle.matrix.specs.Counts.{rowCount, matrixCount}
-use Rattle.matrix.specs.Answers.{yesNo, determinantFaults, matrixFaults, rowFaults, plainFaults, halvedFaults, checkOf}
-use Rattle.search.specs.declared.Family.the-variants.{Hadamard, Circulant}
+use Rattle.lines.specs.Numbers.{numbers, elements, entry}
+use Rattle.lines.specs.Counts.{rowCount, matrixCount}
+use Rattle.checks.specs.Answers.{yesNo, determinantFaults, matrixFaults, rowFaults, plainFaults, halvedFaults, checkOf}
+use Rattle.rows.specs.declared.Family.the-variants.{Hadamard, Circulant}
 use Rattle.search.specs.Answer.{RowFound, searchAnswer}
 use Rattle.calls.specs.Records.{callIn, polynomialIn, firstIn, secondIn, matrixIn, inputIn, candidatesIn}
 

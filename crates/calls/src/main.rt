@@ -6,7 +6,7 @@ ghost use mathlib.Core.List.{_∷_, _++_};
 ghost use Prim.Native.Nat.{_+_, _≤_, _<_, min};
 ghost use lib.ListN.{length, take, drop, replicate, getD};
 ghost use Rattle.refusal.specs.Refusals.{answerOf};
-ghost use Rattle.matrix.specs.Answers.{wordsOf, checkedOf};
+ghost use Rattle.checks.specs.Answers.{wordsOf, checkedOf};
 ghost use Rattle.search.specs.Answer.{saysSearch};
 ghost use Rattle.calls.specs.Records.{fourBytes, wordsAt, matrixIn, byteOf, asBytes};
 ghost use Rattle.calls.specs.Replies.{valueReply, wordsReply, checkReply, searchReply, noAnswer, valueAnswers, replyTo, replyOf};
@@ -124,7 +124,7 @@ fn value_reply(outcome: Outcome) -> [u32; 13]
     reply_with(number_in(outcome), value_in(outcome), [0; 8])
 }
 
-fn words_reply(told: matrix::call::Words) -> [u32; 13]
+fn words_reply(told: checks::Words) -> [u32; 13]
     ensures { λ r. ⌜ r ≡ wordsReply (wordsOf told) ⌝ }
 {
     let outcome = told.outcome;
@@ -140,7 +140,7 @@ fn search_reply(told: search::SearchResult) -> [u32; 13]
     reply_with(number_in(outcome), value_in(outcome), row)
 }
 
-fn check_reply(told: matrix::call::Checked) -> [u32; 13]
+fn check_reply(told: checks::Checked) -> [u32; 13]
     ensures { λ r. ⌜ r ≡ checkReply (checkedOf told) ⌝ }
 {
     let outcome = told.outcome;
@@ -173,12 +173,12 @@ fn value_call(call: u32, p: u32, a: u32, b: u32, m: [[u8; 8]; 8], x: [u8; 8]) ->
         2 => field::checked_product(p, a, b),
         3 => field::checked_inverse(p, a),
         4 => field::checked_xor_count(p, a),
-        5 => matrix::call::checked_determinant(p, m, a),
-        6 => matrix::call::checked_branch_number(p, m, a),
-        7 => matrix::call::checked_mds(p, m, a),
-        8 => matrix::call::checked_involution(p, m, a),
-        9 => matrix::call::checked_matrix_count(p, m, a),
-        10 => matrix::call::checked_row_count(p, x, a),
+        5 => checks::checked_determinant(p, m, a),
+        6 => checks::checked_branch_number(p, m, a),
+        7 => checks::checked_mds(p, m, a),
+        8 => checks::checked_involution(p, m, a),
+        9 => checks::checked_matrix_count(p, m, a),
+        10 => checks::checked_row_count(p, x, a),
         _ => Outcome::Value(0),
     }
 }
@@ -196,12 +196,12 @@ fn reply_to(
     ensures { λ r. ⌜ r ≡ replyTo call p a b m x (now (candidates .entry)) ⌝ }
 {
     match call {
-        11 => words_reply(matrix::call::checked_plain(p, m, x, a)),
+        11 => words_reply(checks::checked_plain(p, m, x, a)),
         12 => {
             let row = m[0];
-            words_reply(matrix::call::checked_halved(p, row, x, a))
+            words_reply(checks::checked_halved(p, row, x, a))
         }
-        13 => check_reply(matrix::call::checked_check(p, m, a)),
+        13 => check_reply(checks::checked_check(p, m, a)),
         14 => search_reply(search::search(p, a, candidates)),
         15 => search_reply(search::search_circulant(p, a, candidates)),
         _ => value_reply(value_call(call, p, a, b, m, x)),

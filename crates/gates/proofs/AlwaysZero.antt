@@ -19,12 +19,12 @@ use Rattle.field.specs.Polynomial.{_⊕_, Modulus, degree}
 use Rattle.field.proofs.Sum.{sum-zero-r, sum-self}
 use Rattle.field.proofs.Degrees.{polynomial}
 use Rattle.field.proofs.Completeness.{Ascends, rise, ascends-above}
-use Rattle.matrix.specs.Numbers.{numbers, WordsInField}
-use Rattle.matrix.specs.Depths.{bit}
+use Rattle.lines.specs.Numbers.{numbers, WordsInField}
+use Rattle.lines.specs.Depths.{bit}
+use Rattle.lines.proofs.Bits.{bit-zero, bit-own}
 use Rattle.gates.specs.Gates.{outputs, gatesOf, carrierOf, gatesOfMatrix, carriersOfMatrix}
 use Rattle.gates.specs.Wires.{bitsOf}
 use Rattle.gates.specs.Netlist.{productBits}
-use Rattle.matrix.proofs.Bits.{bit-zero, bit-own}
 use Rattle.gates.proofs.Lists.{listSum}
 use Rattle.gates.proofs.Joined.{InputList, length-outputs, output-at, output-inputs, CarrierAt, carrier-at, of-there}
 use Rattle.gates.proofs.Evaluation.{xorOf, bitAt, output-product}

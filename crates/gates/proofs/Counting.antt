@@ -16,15 +16,15 @@ use Rattle.algebra.proofs.Words.{oneUnless}
 use Rattle.algebra.proofs.Sums.{Naturals, naturals, sum-cong, sum-flat}
 use Rattle.algebra.proofs.Weights.{sum-le, weight-tabulate}
 use Rattle.field.specs.Polynomial.{Modulus, degree, product}
-use Rattle.matrix.specs.Numbers.{numbers}
-use Rattle.matrix.specs.Counts.{elementCount, additionCount, rowCount, matrixCount}
-use Rattle.matrix.proofs.Tallies.{total-sum, total-rows, zero-line}
-use Rattle.matrix.specs.Depths.{bit, outputOnes}
+use Rattle.lines.specs.Numbers.{numbers}
+use Rattle.lines.specs.Counts.{elementCount, additionCount, rowCount, matrixCount}
+use Rattle.lines.proofs.Tallies.{total-sum, total-rows, zero-line}
+use Rattle.lines.specs.Depths.{bit, outputOnes}
+use Rattle.lines.proofs.Bits.{at-bit}
+use Rattle.lines.proofs.BitMatrix.{line-sum, sum-none}
+use Rattle.lines.proofs.LineOnes.{output-sum, weight-ones, ones-total}
 use Rattle.gates.specs.Gates.{isInput, inputsOf, outputs, joining, gatesOf, gatesFrom, gatesOfMatrix}
-use Rattle.matrix.proofs.Bits.{at-bit}
 use Rattle.gates.proofs.Lists.{listSum, length-sum, tabulate-sum, passing-sum}
-use Rattle.matrix.proofs.BitMatrix.{line-sum, sum-none}
-use Rattle.matrix.proofs.LineOnes.{output-sum, weight-ones, ones-total}
 
 -- ---- the gates of an output bit
 

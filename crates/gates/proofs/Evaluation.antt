@@ -21,12 +21,12 @@ use Rattle.algebra.proofs.Bridge.{map-tabulate}
 use Rattle.field.specs.Polynomial.{_⊕_, Modulus, degree, product}
 use Rattle.field.proofs.Sum.{sum-assoc, sum-comm, sum-zero-r}
 use Rattle.field.proofs.Degrees.{polynomial}
-use Rattle.matrix.specs.Numbers.{numbers, WordsInField}
-use Rattle.matrix.specs.Depths.{bit}
+use Rattle.lines.specs.Numbers.{numbers, WordsInField}
+use Rattle.lines.specs.Depths.{bit}
+use Rattle.lines.proofs.Bits.{at-bit, bit-sums, bit-product}
 use Rattle.gates.specs.Gates.{isInput, inputsOf, outputs, Gate, joining, gatesOf, carrierOf, gatesFrom, carriersFrom, gatesOfMatrix, carriersOfMatrix}
 use Rattle.gates.specs.Wires.{bitsOf, wires, carriedBit, evaluate}
 use Rattle.gates.specs.Netlist.{productBits}
-use Rattle.matrix.proofs.Bits.{at-bit, bit-sums, bit-product}
 use Rattle.gates.proofs.Lists.{listSum, passing-sum}
 use Rattle.gates.proofs.Counting.{length-joining, length-more}
 use Rattle.gates.proofs.Joined.{InputList, InputLists, of-there, outputs-inputs}

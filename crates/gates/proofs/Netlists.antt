@@ -6,7 +6,7 @@ use native.Mathlib.Omega.{arith}
 use lib.ListN.{length}
 use Rattle.field.specs.Polynomial.{Modulus, degree}
 use Rattle.field.proofs.Degrees.{polynomial}
-use Rattle.matrix.proofs.Tallies.{matrixCount-le}
+use Rattle.lines.proofs.Tallies.{matrixCount-le}
 use Rattle.gates.specs.Gates.{outputs, gatesOfMatrix, carriersOfMatrix}
 use Rattle.gates.specs.Netlist.{Netlist}
 use Rattle.gates.proofs.Counting.{gates-count}

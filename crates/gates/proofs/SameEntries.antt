@@ -8,7 +8,7 @@ use Rattle.algebra.proofs.Words.{tabulate-cong}
 use Rattle.field.specs.Polynomial.{Modulus, degree, product}
 use Rattle.field.proofs.Degrees.{polynomial}
 use Rattle.field.proofs.Completeness.{passing-cong}
-use Rattle.matrix.specs.Depths.{bit}
+use Rattle.lines.specs.Depths.{bit}
 use Rattle.gates.specs.Gates.{isInput, inputsOf, outputs, gatesFrom, carriersFrom, gatesOfMatrix, carriersOfMatrix}
 
 module _ (p n : ℕ) (h : Modulus p) where

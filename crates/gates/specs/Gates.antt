@@ -8,7 +8,7 @@ use lib.ListN.{length}
 use Rattle.algebra.specs.Matrix.{tabulate}
 use Rattle.field.specs.Polynomial.{degree, product}
 use Rattle.field.specs.Table.{passing}
-use Rattle.matrix.specs.Depths.{bit}
+use Rattle.lines.specs.Depths.{bit}
 
 -- ---- inputs
 

@@ -6,8 +6,8 @@ use Prim.Native.Nat.{ℕ, _+_, _*_, _<_}
 use lib.ListN.{length, getD}
 use Rattle.algebra.specs.Matrix.{apply}
 use Rattle.field.specs.Polynomial.{degree}
-use Rattle.matrix.specs.Numbers.{numbers, WordsInField}
-use Rattle.matrix.specs.Counts.{matrixCount}
+use Rattle.lines.specs.Numbers.{numbers, WordsInField}
+use Rattle.lines.specs.Counts.{matrixCount}
 use Rattle.gates.specs.Gates.{Gate, gate, gatesOfMatrix, carriersOfMatrix}
 use Rattle.gates.specs.Wires.{bitsOf, evaluate}
 

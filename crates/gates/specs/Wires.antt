@@ -6,7 +6,7 @@ use lib.Dec.{eqb}
 use lib.ListN.{getD}
 use Rattle.algebra.specs.Matrix.{tabulate}
 use Rattle.field.specs.Polynomial.{_⊕_}
-use Rattle.matrix.specs.Depths.{bit}
+use Rattle.lines.specs.Depths.{bit}
 use Rattle.gates.specs.Gates.{Gate}
 
 -- the bits of n words of m bits each: bit j of word i has the number i·m + j

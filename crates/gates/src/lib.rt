@@ -5,8 +5,8 @@ ghost use Prim.Native.Nat.{_+_, _-_, _*_, _/_, _%_, _^_, _≤_, _<_};
 ghost use lib.Dec.{eqb};
 ghost use lib.ListN.{length, getD};
 ghost use Rattle.field.specs.Polynomial.{Modulus, degree, product};
-ghost use Rattle.matrix.specs.Numbers.{entry, InField, WordsInField};
-ghost use Rattle.matrix.specs.Depths.{bit};
+ghost use Rattle.lines.specs.Numbers.{entry, InField, WordsInField};
+ghost use Rattle.lines.specs.Depths.{bit};
 ghost use Rattle.gates.specs.Gates.{inputsOf, carrierOf};
 ghost use Rattle.gates.specs.Steps.{asInputs};
 

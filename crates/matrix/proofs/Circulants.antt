@@ -18,7 +18,7 @@ use Rattle.algebra.proofs.Planes.{two-by-two-not-mds}
 use Rattle.algebra.proofs.Symmetry.{mds-moved}
 use Rattle.algebra.proofs.Circulant.{circulant-no-involution}
 use Rattle.field.specs.Polynomial.{_⊕_, _⊗_, digitsWithin, overDigits, degree, reduce, rem, product, Modulus}
-use Rattle.matrix.specs.Numbers.{numbers, elements, WordsInField}
+use Rattle.lines.specs.Numbers.{numbers, elements, WordsInField}
 use Rattle.matrix.specs.Steps.Regular.{regularBetween}
 use Rattle.matrix.proofs.Rotations.{rotations-decide}
 use Rattle.matrix.proofs.Residues.{Residue, lift, lift-number, same-number, residueList as all, residues-complete as complete, residues, residues-field, mds-carried, involution-carried, regular-carried}

@@ -13,9 +13,9 @@ use Rattle.field.specs.Polynomial.{degree, overDigits, digitsWithin, rem, _⊗_
 use Rattle.field.proofs.Sum.{sum-zero-l}
 use Rattle.field.proofs.Degrees.{has-degree}
 use Rattle.field.proofs.Field.{times-one-r}
-use Rattle.matrix.specs.Numbers.{numbers, entry, InField}
-use Rattle.matrix.specs.Steps.Blocks.{framed}
-use Rattle.matrix.proofs.Filled.{entry-of}
+use Rattle.lines.specs.Numbers.{numbers, entry, InField}
+use Rattle.lines.specs.Steps.Blocks.{framed}
+use Rattle.lines.proofs.Filled.{entry-of}
 
 -- ---- a line without a column
 

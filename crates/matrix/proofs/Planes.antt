@@ -24,7 +24,7 @@ use Rattle.algebra.proofs.Choices.{chosen-lt, chosen-ascends}
 use Rattle.algebra.proofs.Planes.{sumWhere, where-cong, where-xor, where-four, oddOf, Subspace, coset-not-mds, products-not-mds, ProductsDiffer, products-apart, det-one, det-two}
 use Rattle.field.specs.Polynomial.{_⊕_, product, firstBelow, Modulus}
 use Rattle.field.specs.Steps.{everyBelow}
-use Rattle.matrix.specs.Numbers.{numbers, elements, WordsInField}
+use Rattle.lines.specs.Numbers.{numbers, elements, WordsInField}
 use Rattle.matrix.specs.Steps.Regular.{isRegularBlock}
 use Rattle.matrix.proofs.Residues.{Residue, number, same-number, residueList as all, residues-complete as complete, residues, number-keeps, residues-field, mds-carried}
 use Rattle.matrix.proofs.Rows.{lifted, word, entries, sums, zero-entry-not-mds}

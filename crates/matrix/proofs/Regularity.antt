@@ -13,9 +13,9 @@ use lib.ListN.{length, getD, replicate}
 use Rattle.algebra.specs.Matrix.{det, chosen, block}
 use Rattle.algebra.proofs.Bridge.{det-cong}
 use Rattle.algebra.proofs.Choices.{chosen-lt}
-use Rattle.matrix.specs.Numbers.{numbers, entry, InField}
+use Rattle.lines.specs.Numbers.{numbers, entry, InField}
+use Rattle.lines.specs.Steps.Blocks.{filled, framed}
 use Rattle.matrix.specs.Steps.Regular.{isRegularBlock, regularOfSize}
-use Rattle.matrix.specs.Steps.Blocks.{filled, framed}
 use Rattle.matrix.specs.Steps.Choice.{isLookedAt, isChoice, nextChoice}
 use Rattle.matrix.proofs.Squares.{each-every, every-not}
 use Rattle.matrix.proofs.Selections.{chosen-ones, line-chosen, column-chosen}

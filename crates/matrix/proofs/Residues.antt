@@ -24,7 +24,7 @@ use Rattle.field.proofs.Degrees.{HasDegree, polynomial}
 use Rattle.field.proofs.Field.{times-assoc, times-comm, times-one-r, times-sum-r, times-lt}
 use Rattle.field.proofs.Inverses.{inverse-exists}
 use Rattle.field.proofs.Irreducibility.{irreducible-to}
-use Rattle.matrix.specs.Numbers.{numbers, elements, WordsInField}
+use Rattle.lines.specs.Numbers.{numbers, elements, WordsInField}
 use Rattle.matrix.specs.Steps.Regular.{regularBetween}
 use Rattle.matrix.proofs.Squares.{regular-bridge}
 

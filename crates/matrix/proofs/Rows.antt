@@ -19,12 +19,12 @@ use Rattle.algebra.proofs.Planes.{equal-not-mds}
 use Rattle.algebra.proofs.Symmetry.{same-bool, branch-row, mds-row, involution-row}
 use Rattle.algebra.proofs.Bridge.{sum-bridge}
 use Rattle.field.specs.Polynomial.{Modulus}
-use Rattle.matrix.specs.Numbers.{numbers, elements, WordsInField}
-use Rattle.matrix.specs.Counts.{rowCount, matrixCount}
-use Rattle.matrix.specs.Depths.{lineDepth}
+use Rattle.lines.specs.Numbers.{numbers, elements, WordsInField}
+use Rattle.lines.specs.Counts.{rowCount, matrixCount}
+use Rattle.lines.specs.Depths.{lineDepth}
+use Rattle.lines.proofs.Tallies.{count-moved, hadamard-count}
+use Rattle.lines.proofs.Depths.{depth-moved}
 use Rattle.matrix.specs.Steps.Regular.{regularBetween}
-use Rattle.matrix.proofs.Tallies.{count-moved, hadamard-count}
-use Rattle.matrix.proofs.Depths.{depth-moved}
 use Rattle.matrix.proofs.Translates as Translates
 use Rattle.matrix.proofs.Residues.{Residue, number, lift, lift-number, same-number, residueList as all, residues-complete as complete, residues, number-keeps, residues-field}
 use Rattle.matrix.proofs.Residues.{branch-carried, mds-carried, involution-carried, regular-carried}

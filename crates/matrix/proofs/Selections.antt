@@ -14,9 +14,9 @@ use lib.ListN.{length, getD, take, set, replicate, length-map, length-set, getD-
 use lib.Seq.{length-take-le, take-set-le, take-suc-set, getD-take, getD-set-other}
 use Rattle.algebra.specs.Matrix.{atDigit, placesFrom, chosen}
 use Rattle.field.proofs.Sum.{at-digit}
-use Rattle.matrix.specs.Numbers.{entry}
-use Rattle.matrix.specs.Steps.Blocks.{filled, framed}
-use Rattle.matrix.proofs.Filled.{getD-filled, filled-of, entry-of}
+use Rattle.lines.specs.Numbers.{entry}
+use Rattle.lines.specs.Steps.Blocks.{filled, framed}
+use Rattle.lines.proofs.Filled.{getD-filled, filled-of, entry-of}
 
 -- no places without ones
 places-none : (i n : ℕ) → placesFrom i n 0 ≡ []

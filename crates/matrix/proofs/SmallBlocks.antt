@@ -9,11 +9,11 @@ use borrow.Author.Tests.{eqb-true}
 use Rattle.algebra.specs.Matrix.{block, chosen}
 use Rattle.algebra.proofs.Choices.{chosen-lt, chosen-ascends}
 use Rattle.algebra.proofs.Planes.{det-one, det-two}
-use Rattle.field.specs.Polynomial.{_⊕_, degree, product, Modulus}
+use Rattle.field.specs.Polynomial.{degree, product, Modulus}
 use Rattle.field.proofs.Sum.{sum-zero-l, sum-equal}
 use Rattle.field.proofs.Degrees.{polynomial}
 use Rattle.field.proofs.Field.{times-one-r}
-use Rattle.matrix.specs.Numbers.{numbers}
+use Rattle.lines.specs.Numbers.{numbers}
 use Rattle.matrix.specs.Steps.Regular.{isRegularBlock}
 use Rattle.matrix.proofs.Squares.{Singular, regular-of}
 

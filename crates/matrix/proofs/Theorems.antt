@@ -26,7 +26,7 @@ use Rattle.field.specs.Polynomial.{degree, product, Modulus}
 use Rattle.field.proofs.Sum.{sum-assoc, sum-comm, sum-zero-r, sum-lt}
 use Rattle.field.proofs.Degrees.{polynomial}
 use Rattle.field.proofs.Field.{times-zero-l, times-zero-r, times-lt}
-use Rattle.matrix.specs.Numbers.{numbers, elements, WordsInField}
+use Rattle.lines.specs.Numbers.{numbers, elements, WordsInField}
 use Rattle.matrix.specs.Steps.Regular.{regularBetween}
 use Rattle.matrix.proofs.Squares as Squares
 use Rattle.matrix.proofs.Residues.{Residue, number, lift, lift-number, same-number, same-numbers, lift-words, residueList as all, residues-complete as complete, one-lt, residues, number-keeps, residues-field}

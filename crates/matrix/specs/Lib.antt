@@ -1,7 +1,2 @@
--- The definitions that the contracts of `matrix` cite, and what document 01 says of refusals. To be believed: all but Steps.
-pub mod Numbers
-pub mod Counts
-pub mod Depths
-pub mod Answers
-pub mod Stated
+-- Steps of the code on matrices, which nobody need believe. What its contracts cite beside them are the definitions of `algebra`, at the numbers of `lines`.
 pub mod Steps

@@ -1,8 +1,3 @@
 -- Steps of the code that contracts need. Nobody need believe these: theorems tie them to the definitions.
-pub mod Blocks
 pub mod Choice
-pub mod Pairs
-pub mod Identity
 pub mod Regular
-pub mod Calls
-pub mod Figures

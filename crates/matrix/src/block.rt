@@ -6,8 +6,8 @@ ghost use Prim.Native.Nat.{_-_, _^_, _≤_, _<_};
 ghost use lib.ListN.{length, getD, replicate};
 ghost use Rattle.algebra.specs.Matrix.{skip, without, det, chosen, block};
 ghost use Rattle.field.specs.Polynomial.{_⊕_, Modulus, degree, product, Products};
-ghost use Rattle.matrix.specs.Numbers.{numbers, entry, InField};
-ghost use Rattle.matrix.specs.Steps.Blocks.{filled, framed};
+ghost use Rattle.lines.specs.Numbers.{numbers, entry, InField};
+ghost use Rattle.lines.specs.Steps.Blocks.{filled, framed};
 ghost use Rattle.matrix.specs.Steps.Choice.{isLookedAt, nextChoice};
 ghost use Rattle.matrix.specs.Steps.Regular.{regularOfSize, regularBetween};
 

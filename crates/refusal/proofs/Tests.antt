@@ -1,5 +1,5 @@
 -- What a test decides, from what its parts decide. Assumes nothing.
-use mathlib.Core.Path.{_≡_, refl}
+use mathlib.Core.Path.{_≡_, refl, sym}
 use mathlib.Core.Logic.{_↔_, _⊎_, inl, inr}
 use mathlib.Core.Bool.{Bool, true, false, not, _&&_, _||_, false≢true}
 use Prim.Native.Nat.{ℕ, _≤_, _<_}
@@ -26,6 +26,11 @@ zero-exactly a = (λ e. let z : a ≡ 0 = eqb-true a 0 e in omega arith, λ l. e
 pub not-exactly : {P : Type 0} (a : Bool) → (a ≡ true) ↔ P → (not a ≡ true) ↔ (P → ⊥)
 not-exactly true h = (λ e. absurd (false≢true e), λ f. absurd (f (h .0 refl)))
 not-exactly false h = (λ e q. false≢true (h .1 q), λ f. refl)
+
+-- neither of two tests passes
+pub or-none : (a b : Bool) → (a || b) ≡ false → (a ≡ false) × (b ≡ false)
+or-none false b e = (refl, e)
+or-none true b e = absurd (false≢true (sym e))
 
 module _ {P Q : Type 0} where
   pub or-exactly : (a b : Bool) → (a ≡ true) ↔ P → (b ≡ true) ↔ Q → ((a || b) ≡ true) ↔ (P ⊎ Q)

@@ -4,7 +4,7 @@ ghost use mathlib.Core.Path.{_≡_};
 ghost use mathlib.Core.List.{List};
 ghost use Prim.Native.Nat.{ℕ, _≤_};
 ghost use lib.ListN.{length, take};
-ghost use Rattle.answer.specs.Answered.{Shown};
+ghost use Rattle.reply.specs.Answered.{Shown};
 
 // Answers the whole input, whatever its length, of which the first `read` bytes of the buffer are the first 4,097, or all. The result is
 // how many bytes of the space are to be shown: the answer text, or the line of a refusal; the bytes behind them are as before.

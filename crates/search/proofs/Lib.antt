@@ -1,24 +1,3 @@
--- The theory of the search, and the laws that its code is proved by.
-pub mod Rows
-pub mod Lightest
-pub mod Keys
-pub mod Around
-pub mod Demands
-pub mod Walk
-pub mod Pruning
-pub mod IndexMaps
-pub mod HadamardRows
-pub mod CirculantMaps
-pub mod CirculantRows
-pub mod Executable
-pub mod LetterCounts
-pub mod PlaneCuts
-pub mod HadamardCuts
-pub mod CirculantCuts
-pub mod Families
-pub mod Prefixes
-pub mod Start
+-- Laws of what a search is refused for, and of its answer.
 pub mod Refusals
-pub mod FewCandidates
-pub mod RowsBefore
 pub mod Limits

@@ -13,14 +13,16 @@ use Rattle.refusal.proofs.Tests.{below-exactly, same-exactly, zero-exactly, not
 use Rattle.field.specs.Faults.{polynomialFaults, callFaults}
 use Rattle.field.specs.Stated.{SomeTooLarge, Stated}
 use Rattle.field.proofs.Limits.{one-too-large, either-too-large, call-exactly}
-use Rattle.search.specs.declared.Family.{Family}
-use Rattle.search.specs.declared.Family.the-variants.{Hadamard, Circulant}
-use Rattle.search.specs.Lightest.{Best, nothing, found}
-use Rattle.search.specs.Shape.{shapeOf}
-use Rattle.search.specs.Answer.{lightestRow, isWrongSearchOrder, isWrongSearchCount, isWrongCirculantOrder, isWrongCirculantCount, isWrongOrderFor, isWrongCountFor}
-use Rattle.search.specs.Answer.{someTooLarge, someRepeated, someBad, isNone, searchFaults, noRow, searchAnswer}
+use Rattle.rows.specs.declared.Family.{Family}
+use Rattle.rows.specs.declared.Family.the-variants.{Hadamard, Circulant}
+use Rattle.rows.specs.Lightest.{Best, nothing, found}
+use Rattle.rows.specs.Shape.{shapeOf}
+use Rattle.rows.specs.Keys.{lightestRow}
+use Rattle.rows.proofs.Rows.{member-mem, mem-at, getD-mem}
+use Rattle.search.specs.Answer.{isWrongSearchOrder, isWrongSearchCount, isWrongCirculantOrder, isWrongCirculantCount, isWrongOrderFor, isWrongCountFor}
+use Rattle.rows.specs.Candidates.{someTooLarge, someRepeated, someBad}
+use Rattle.search.specs.Answer.{isNone, searchFaults, noRow, searchAnswer}
 use Rattle.search.specs.Stated.{WrongSearchCount, no-candidate, many-for-four, many-for-eight, Repeated, StatedFor, OrNone}
-use Rattle.search.proofs.Rows.{member-mem, mem-at, getD-mem}
 
 -- ---- order and count
 

@@ -14,15 +14,20 @@ use borrow.Author.Tests.{eqb-true, ne-eqb, le-leb, lt-leb, lt-ltb, le-ltb, ltb-f
 use Rattle.refusal.specs.Refusals.{fault, Answer, answer, answerAfter}
 use Rattle.refusal.specs.declared.Refusal.the-variants.{NoRow}
 use Rattle.refusal.proofs.Faults.{after-taken, after-left, after-empty}
+use Rattle.refusal.proofs.Tests.{or-none}
 use Rattle.field.specs.Polynomial.{degree}
 use Rattle.field.specs.Faults.{isTooLarge}
-use Rattle.matrix.specs.Counts.{elementCount}
-use Rattle.matrix.proofs.CallFaults.{or-none}
-use Rattle.search.specs.declared.Best.{Best as Kept}
-use Rattle.search.specs.Lightest.{Best, member}
-use Rattle.search.specs.Answer.{sumOf, isWrongSearchOrder, isWrongSearchCount, isWrongCirculantOrder, isWrongCirculantCount, someTooLarge, someRepeated, someBad, isNone, RowFound, noRow, rowFound}
-use Rattle.search.specs.Steps.Prefix.{kept, bestAs}
-use Rattle.search.proofs.Prefixes.{count-take, best-found, best-none}
+use Rattle.lines.specs.Counts.{elementCount}
+use Rattle.rows.specs.declared.Family.{Family}
+use Rattle.rows.specs.declared.Family.the-variants.{Hadamard, Circulant}
+use Rattle.rows.specs.Lightest.{Best, member}
+use Rattle.rows.specs.Keys.{sumOf}
+use Rattle.rows.specs.Steps.Families.{OrderOf}
+use Rattle.lightest.specs.declared.Best.{Best as Kept}
+use Rattle.rows.specs.Candidates.{someTooLarge, someRepeated, someBad}
+use Rattle.search.specs.Answer.{isWrongSearchOrder, isWrongSearchCount, isWrongCirculantOrder, isWrongCirculantCount, isWrongOrderFor, isNone, RowFound, noRow, rowFound}
+use Rattle.lightest.specs.Steps.Prefix.{kept, bestAs}
+use Rattle.lightest.proofs.Prefixes.{count-take, best-found, best-none}
 
 -- ---- a test of every value
 
@@ -116,6 +121,11 @@ circulant-order-other n l = rw (le-ltb n 2 l)
 pub circulant-order-of : (n : ℕ) → isWrongCirculantOrder n ≡ false → (2 ≤ n) × (n ≤ 8)
 unfolding isWrongCirculantOrder
 circulant-order-of n e = let (low, high) = or-none (ltb n 2) (ltb 8 n) e in (ltb-false n 2 low, ltb-false 8 n high)
+
+-- by the family of its matrices
+pub family-order : (family : Family) (n : ℕ) → isWrongOrderFor family n ≡ false → OrderOf family n
+family-order Hadamard n e = order-of n e
+family-order Circulant n e = circulant-order-of n e
 
 pub circulant-count-zero : (count : ℕ) → count ≡ 0 → true ≡ isWrongCirculantCount count
 unfolding isWrongCirculantCount

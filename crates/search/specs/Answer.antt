@@ -1,38 +1,21 @@
--- The search over the candidates of a brief, in the words of documents 01 and 02: how rows are compared, what the call answers, and what
--- the struct of the code says. Assumes nothing.
+-- The search over the candidates of a brief, in the words of documents 01 and 02: what the call answers, and what the struct of the code says.
+-- Assumes nothing.
 use mathlib.Core.Bool.{Bool, true, false, not, _&&_, _||_}
 use mathlib.Core.List.{List, [], _∷_, _++_}
-use Prim.Native.Nat.{ℕ, suc, _+_, _-_, _*_, _^_}
+use Prim.Native.Nat.{ℕ, _-_}
 use lib.Dec.{eqb, ltb}
-use lib.ListN.{length, getD, replicate}
+use lib.ListN.{length, replicate}
 use Rattle.refusal.specs.Refusals.{numberOf, Fault, fault, Answer, answer, answerAfter}
 use Rattle.refusal.specs.declared.Outcome.{Outcome}
 use Rattle.refusal.specs.declared.Outcome.the-variants.{Value, Refused}
-use Rattle.field.specs.Polynomial.{degree}
-use Rattle.field.specs.Faults.{isTooLarge, callFaults}
-use Rattle.matrix.specs.Counts.{elementCount}
-use Rattle.matrix.specs.Depths.{lineDepth}
+use Rattle.field.specs.Faults.{callFaults}
+use Rattle.rows.specs.Lightest.{Best, nothing, found}
+use Rattle.rows.specs.Candidates.{someTooLarge, someBad}
+use Rattle.rows.specs.declared.Family.{Family}
+use Rattle.rows.specs.declared.Family.the-variants.{Hadamard, Circulant}
+use Rattle.rows.specs.Shape.{shapeOf}
+use Rattle.rows.specs.Keys.{sumOf, lightestRow}
 use Rattle.search.specs.declared.SearchResult.{SearchResult}
-use Rattle.search.specs.Lightest.{Best, nothing, found, member, lightest, rowsOver}
-use Rattle.search.specs.declared.Family.{Family}
-use Rattle.search.specs.declared.Family.the-variants.{Hadamard, Circulant}
-use Rattle.search.specs.Shape.{Shape, isGood, shapeOf}
-
--- what is printed, and compared first: the sum of the XOR counts of the row's elements
-unfoldable pub sumOf : ℕ → ℕ → List ℕ → ℕ
-sumOf p n row = elementCount p n (λ j. getD row j 0)
-
--- the depth of a row: that of the first output of its matrix, whose line of entries the row is
-unfoldable pub depthOfRow : ℕ → ℕ → List ℕ → ℕ
-depthOfRow p n row = lineDepth p n (λ j. getD row j 0)
-
--- what rows are compared by: the sum, then the depth, which is at most m·n
-unfoldable pub keyOf : ℕ → ℕ → List ℕ → ℕ
-keyOf p n row = sumOf p n row * suc (degree p * n) + depthOfRow p n row
-
--- the good row of a shape over the candidates with the least key, the first in dictionary order
-unfoldable pub lightestRow : Shape → ℕ → ℕ → List ℕ → Best
-lightestRow shape p n candidates = lightest (isGood shape p n) (keyOf p n) (rowsOver (2 ^ degree p) candidates n)
 
 -- ---- the call
 
@@ -60,20 +43,6 @@ isWrongOrderFor Circulant n = isWrongCirculantOrder n
 abbrev pub isWrongCountFor : Family → ℕ → ℕ → Bool
 isWrongCountFor Hadamard n count = isWrongSearchCount n count
 isWrongCountFor Circulant n count = isWrongCirculantCount count
-
--- 7: some value is 2^m or more
-unfoldable pub someTooLarge : ℕ → List ℕ → Bool
-someTooLarge p [] = false
-someTooLarge p (a ∷ rest) = isTooLarge p a || someTooLarge p rest
-
--- 8: some value stands more than one time
-unfoldable pub someRepeated : List ℕ → Bool
-someRepeated [] = false
-someRepeated (a ∷ rest) = member a rest || someRepeated rest
-
--- 8: a candidate that is 0 or repeated
-unfoldable pub someBad : List ℕ → Bool
-someBad candidates = member 0 candidates || someRepeated candidates
 
 -- 9: there is no row
 abbrev pub isNone : Best → Bool

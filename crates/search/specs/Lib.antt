@@ -1,7 +1,3 @@
--- The definitions that the contracts of `search` cite, and what document 01 says of refusals. To be believed: all but Steps.
-pub mod Lightest
-pub mod Shape
+-- The definitions that the contracts of `search` cite, and what documents 01 and 02 say of refusals. To be believed: all.
 pub mod Answer
 pub mod Stated
-pub mod Demands
-pub mod Steps

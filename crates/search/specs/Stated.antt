@@ -6,9 +6,9 @@ use mathlib.Core.List.{List, List·Memᴰ}
 use Prim.Native.Nat.{ℕ, _<_}
 use lib.ListN.{length, getD}
 use Rattle.field.specs.Stated.{Stated}
-use Rattle.search.specs.declared.Family.{Family}
-use Rattle.search.specs.declared.Family.the-variants.{Hadamard, Circulant}
-use Rattle.search.specs.Lightest.{Best, nothing}
+use Rattle.rows.specs.declared.Family.{Family}
+use Rattle.rows.specs.declared.Family.the-variants.{Hadamard, Circulant}
+use Rattle.rows.specs.Lightest.{Best, nothing}
 
 -- a count that is not allowed (1 to 255 candidates for order 4, 1 to 16 for order 8): none, whatever the order; too many for order 4 or 8
 pub data WrongSearchCount (n count : ℕ) : Type 0 where

@@ -2,10 +2,11 @@
 
 ghost use mathlib.Core.Path.{_≡_};
 ghost use Rattle.field.specs.Polynomial.{Modulus};
-ghost use Rattle.search.specs.Lightest.{member};
-ghost use Rattle.search.specs.Answer.{isWrongSearchOrder, isWrongSearchCount, isWrongCirculantOrder, isWrongCirculantCount, isWrongOrderFor, isWrongCountFor, someTooLarge, someRepeated, someBad};
-use crate::Family;
-use crate::letters;
+ghost use Rattle.rows.specs.Lightest.{member};
+ghost use Rattle.rows.specs.Candidates.{someTooLarge, someRepeated, someBad};
+ghost use Rattle.search.specs.Answer.{isWrongSearchOrder, isWrongSearchCount, isWrongCirculantOrder, isWrongCirculantCount, isWrongOrderFor, isWrongCountFor};
+use lightest::letters;
+use rows::Family;
 
 // Whether the order is neither 4 nor 8.
 fn is_wrong_hadamard_order(n: u32) -> bool

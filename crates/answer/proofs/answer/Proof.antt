@@ -8,8 +8,8 @@ use Rattle.text.specs.declared.Header.the-variants.{Read}
 use Rattle.text.specs.Reading.{saysHeader, headerAnswer}
 use Rattle.text.proofs.Form.{form-long}
 use Rattle.text.proofs.Requests.{header-read, header-refused}
-use Rattle.answer.proofs.DueFrom.{text-refused, text-numbers}
-use Rattle.answer.proofs.Replies.{replied-as}
+use Rattle.reply.proofs.DueFrom.{text-refused, text-numbers}
+use Rattle.reply.proofs.Replies.{replied-as}
 use borrow.Author.Needs.{needs}
 use Rattle.answer.proofs.answer.Statement.{statement}
 use Rattle.answer.proofs.answer.Tie as tie

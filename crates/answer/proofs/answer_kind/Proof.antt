@@ -2,10 +2,10 @@
 use mathlib.Core.Logic.{inl, inr}
 use denote.Ref.{now}
 use Rattle.text.specs.Reading.{valuesFrom}
-use Rattle.answer.specs.Due.{Request, request}
-use Rattle.answer.proofs.DueFrom.{kind-due, kind-search, kind-survey, kind-unknown}
-use Rattle.answer.proofs.GateLines.{asked-kind}
-use Rattle.answer.proofs.Replies.{replied-as}
+use Rattle.reply.specs.Due.{Request, request}
+use Rattle.reply.proofs.DueFrom.{kind-due, kind-search, kind-survey, kind-unknown}
+use Rattle.answer_matrix.proofs.GateLines.{asked-kind}
+use Rattle.reply.proofs.Replies.{replied-as}
 use borrow.Author.Needs.{needs}
 use Rattle.answer.proofs.answer_kind.Statement.{statement}
 use Rattle.answer.proofs.answer_kind.Tie as tie

@@ -7,7 +7,7 @@ use lib.Bits.{and-mask}
 use lib.Dec.{eqb}
 use lib.Pow.{shl-exact}
 use Rattle.field.specs.Polynomial.{product}
-use Rattle.matrix.specs.Depths.{bit}
+use Rattle.lines.specs.Depths.{bit}
 use borrow.Author.Needs.{needs}
 use Rattle.gates.proofs.has_bit.Statement.{statement}
 use Rattle.gates.proofs.has_bit.Tie as tie

@@ -5,7 +5,7 @@ use native.Mathlib.Nat.{mod-lt, div-lt-iff-lt-mul}
 use native.Mathlib.Omega.{arith}
 use Rattle.field.specs.Polynomial.{degree}
 use Rattle.field.proofs.Degrees.{polynomial}
-use Rattle.matrix.specs.Numbers.{entry, InField, WordsInField}
+use Rattle.lines.specs.Numbers.{entry, InField, WordsInField}
 use Rattle.gates.specs.Gates.{inputsOf}
 use Rattle.gates.specs.Steps.{asInputs}
 use borrow.Author.Needs.{needs}

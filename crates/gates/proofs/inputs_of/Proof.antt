@@ -8,7 +8,7 @@ use lib.ListN.{getD}
 use Rattle.field.specs.Polynomial.{degree}
 use Rattle.field.specs.Table.{passing}
 use Rattle.field.proofs.Degrees.{polynomial}
-use Rattle.matrix.specs.Numbers.{WordsInField}
+use Rattle.lines.specs.Numbers.{WordsInField}
 use Rattle.gates.specs.Gates.{isInput, inputsOf}
 use Rattle.gates.specs.Steps.{asInputs}
 use Rattle.gates.proofs.InputArrays.{inputsIn, inputs-none, inputs-room, inputs-left, inputs-taken}

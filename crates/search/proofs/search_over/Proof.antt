@@ -6,14 +6,16 @@ use Rattle.refusal.specs.Refusals.{Answer, fault, answerAfter}
 use lib.ListN.{length}
 use Rattle.refusal.specs.declared.Refusal.the-variants.{OrderRange, CountRange, ValueRange, BadCandidate}
 use Rattle.refusal.proofs.Faults.{after-taken, after-left}
-use Rattle.search.specs.Lightest.{Best}
-use Rattle.search.specs.Shape.{shapeOf}
-use Rattle.search.specs.Answer.{isWrongOrderFor, isWrongCountFor, someTooLarge, someBad, isNone, RowFound, noRow, rowFound, searchFaults, searchAnswer}
 use Rattle.field.specs.Faults.{polynomialFaults}
 use Rattle.field.proofs.Calls.{modulus-passed}
-use Rattle.search.proofs.Families.{family-most, family-order}
-use Rattle.search.proofs.Prefixes.{best-is, kept-own}
-use Rattle.search.proofs.Start.{row-long, row-in-field}
+use Rattle.rows.specs.Lightest.{Best}
+use Rattle.rows.specs.Shape.{shapeOf}
+use Rattle.rows.proofs.Families.{family-most}
+use Rattle.rows.specs.Candidates.{someTooLarge, someBad}
+use Rattle.search.specs.Answer.{isWrongOrderFor, isWrongCountFor, isNone, RowFound, noRow, rowFound, searchFaults, searchAnswer}
+use Rattle.search.proofs.Refusals.{family-order}
+use Rattle.lightest.proofs.Prefixes.{best-is, kept-own}
+use Rattle.lightest.proofs.Start.{row-long, row-in-field}
 use borrow.Author.Needs.{needs}
 use Rattle.search.proofs.search_over.Statement.{statement}
 use Rattle.search.proofs.search_over.Tie as tie

@@ -5,19 +5,19 @@ use native.Mathlib.Nat.{pos-of-ne-zero}
 use native.Mathlib.Omega.{arith}
 use Rattle.algebra.specs.Matrix.{without, det}
 use Rattle.field.specs.Polynomial.{degree}
-use Rattle.matrix.specs.Numbers.{numbers, entry, InField}
-use Rattle.matrix.proofs.Filled.{entry-of}
+use Rattle.lines.specs.Numbers.{numbers, entry, InField}
+use Rattle.lines.proofs.Filled.{entry-of}
 use Rattle.matrix.proofs.Minors.{firstLine, first-line-none, first-line-more, first-line-all, det-none, det-single, det-pair, minor-in-field}
 use borrow.Author.Needs.{needs}
 use borrow.Fn.Kinds.{In}
 use borrow.Fn.PlainCycle.{Measures, is, falls, and}
+use Rattle.field.proofs.times.Reads as times-reads
 use Rattle.matrix.proofs.block.determinant.Reads as determinant
 use Rattle.matrix.proofs.block.determinant.Kinds as determinant-kinds
 use Rattle.matrix.proofs.block.+determinant+first_line_sum.Lts-determinant as determinant-lts
 use Rattle.matrix.proofs.block.first_line_sum.Reads as line
 use Rattle.matrix.proofs.block.first_line_sum.Kinds as line-kinds
 use Rattle.matrix.proofs.block.+determinant+first_line_sum.Lts-first_line_sum as line-lts
-use Rattle.field.proofs.times.Reads as times-reads
 use Rattle.matrix.proofs.block.three_by_three.Reads as three-reads
 use Rattle.matrix.proofs.block.two_by_two.Reads as two-reads
 use Rattle.matrix.proofs.block.without.Reads as without-reads

@@ -5,9 +5,9 @@ use Prim.Native.Nat.{ℕ, _-_, _≤_, zero-le}
 use native.Mathlib.Omega.{arith}
 use lib.ListN.{length, getD, replicate}
 use Rattle.algebra.specs.Matrix.{tabulate, chosen}
-use Rattle.matrix.specs.Numbers.{entry}
-use Rattle.matrix.specs.Steps.Blocks.{filled, framed}
-use Rattle.matrix.proofs.Filled.{filled-more}
+use Rattle.lines.specs.Numbers.{entry}
+use Rattle.lines.specs.Steps.Blocks.{filled, framed}
+use Rattle.lines.proofs.Filled.{filled-more}
 use borrow.Author.Needs.{needs}
 use Rattle.matrix.proofs.block.chosen_columns.Statement.{statement}
 use Rattle.matrix.proofs.block.chosen_columns.Tie as tie

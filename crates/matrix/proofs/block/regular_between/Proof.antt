@@ -8,7 +8,7 @@ use native.Mathlib.Numerals.{add-one}
 use native.Mathlib.Omega.{arith}
 use lib.Dec.{ltb}
 use borrow.Author.Tests.{lt-ltb, le-ltb}
-use Rattle.matrix.specs.Numbers.{numbers, entry}
+use Rattle.lines.specs.Numbers.{numbers, entry}
 use Rattle.matrix.specs.Steps.Regular.{regularOfSize, regularBetween}
 use Rattle.matrix.proofs.Squares.{each-every, every-stops, every-goes}
 use borrow.Author.Needs.{needs}

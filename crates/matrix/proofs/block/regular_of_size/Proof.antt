@@ -9,7 +9,7 @@ use native.Mathlib.Omega.{arith}
 use borrow.Author.Tests.{le-leb, lt-leb}
 use lib.Pow.{pow-mono, pow-pos}
 use Rattle.algebra.specs.Matrix.{det, chosen, block}
-use Rattle.matrix.specs.Numbers.{numbers, entry}
+use Rattle.lines.specs.Numbers.{numbers, entry}
 use Rattle.matrix.specs.Steps.Regular.{regularOfSize}
 use Rattle.matrix.proofs.Masks.{next-later}
 use Rattle.matrix.proofs.Regularity.{Passed, passed-none, passed-more, Both, both, Regular, other-lines, RegularColumns, other-columns, columns-passed}

@@ -4,7 +4,7 @@ use Prim.Native.Nat.{ℕ, _^_, _<_}
 use native.Mathlib.Omega.{arith}
 use lib.Bits.{bitXor}
 use Rattle.field.specs.Polynomial.{degree, product, _⊕_}
-use Rattle.matrix.specs.Numbers.{entry, InField}
+use Rattle.lines.specs.Numbers.{entry, InField}
 use Rattle.matrix.proofs.Minors.{det-three}
 use borrow.Author.Needs.{needs}
 use Rattle.matrix.proofs.block.three_by_three.Statement.{statement}

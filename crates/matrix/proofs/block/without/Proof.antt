@@ -6,9 +6,9 @@ use native.Mathlib.Numerals.{add-one}
 use native.Mathlib.Omega.{arith}
 use lib.ListN.{replicate}
 use Rattle.algebra.specs.Matrix.{tabulate, skip, without}
-use Rattle.matrix.specs.Numbers.{entry}
-use Rattle.matrix.specs.Steps.Blocks.{filled, framed}
-use Rattle.matrix.proofs.Filled.{filled-more}
+use Rattle.lines.specs.Numbers.{entry}
+use Rattle.lines.specs.Steps.Blocks.{filled, framed}
+use Rattle.lines.proofs.Filled.{filled-more}
 use borrow.Author.Needs.{needs}
 use Rattle.matrix.proofs.block.without.Statement.{statement}
 use Rattle.matrix.proofs.block.without.Tie as tie

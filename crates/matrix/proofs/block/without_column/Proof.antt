@@ -7,8 +7,8 @@ use native.Mathlib.Numerals.{add-one}
 use native.Mathlib.Omega.{arith}
 use lib.ListN.{getD}
 use Rattle.algebra.specs.Matrix.{tabulate, skip}
-use Rattle.matrix.specs.Steps.Blocks.{filled}
-use Rattle.matrix.proofs.Filled.{filled-more}
+use Rattle.lines.specs.Steps.Blocks.{filled}
+use Rattle.lines.proofs.Filled.{filled-more}
 use Rattle.matrix.proofs.Minors.{skip-before, skip-behind}
 use borrow.Author.Needs.{needs}
 use Rattle.matrix.proofs.block.without_column.Statement.{statement}

@@ -6,7 +6,7 @@ use mathlib.Core.Path.{_≡_, refl, sym}
 use Prim.Native.Nat.{_-_, _≤_, zero-le}
 use native.Mathlib.Omega.{arith}
 use lib.ListN.{length, drop}
-use Rattle.search.specs.Lightest.{member}
+use Rattle.rows.specs.Lightest.{member}
 use borrow.Author.Needs.{needs}
 use Rattle.search.proofs.front.is_member.Statement.{statement}
 use Rattle.search.proofs.front.is_member.Tie as tie

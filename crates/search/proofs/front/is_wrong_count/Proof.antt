@@ -1,6 +1,6 @@
 -- `search::front::is_wrong_count` meets its contract. Assumes nothing.
 use mathlib.Core.Path.{sym, ap, _∙_}
-use Rattle.search.specs.declared.Family.{Family}
+use Rattle.rows.specs.declared.Family.{Family}
 use Rattle.search.specs.Answer.{isWrongCountFor}
 use borrow.Author.Needs.{needs}
 use Rattle.search.proofs.front.is_wrong_count.Statement.{statement}

@@ -3,7 +3,7 @@ use mathlib.Core.Path.{_≡_, refl, sym, _∙_}
 use Prim.Native.Nat.{_-_, _≤_, zero-le}
 use native.Mathlib.Omega.{arith}
 use lib.ListN.{length, drop}
-use Rattle.search.specs.Answer.{someRepeated}
+use Rattle.rows.specs.Candidates.{someRepeated}
 use Rattle.search.proofs.Refusals.{test-none, test-found, test-next, repeated-here, repeated-none, rest-member}
 use borrow.Author.Needs.{needs}
 use Rattle.search.proofs.front.some_repeated.Statement.{statement}

@@ -4,7 +4,7 @@ use mathlib.Core.Path.{_≡_, refl}
 use Prim.Native.Nat.{_-_, _≤_, zero-le}
 use native.Mathlib.Omega.{arith}
 use lib.ListN.{length, drop}
-use Rattle.search.specs.Answer.{someTooLarge}
+use Rattle.rows.specs.Candidates.{someTooLarge}
 use borrow.Author.Needs.{needs}
 use Rattle.search.proofs.front.some_too_large.Statement.{statement}
 use Rattle.search.proofs.front.some_too_large.Tie as tie

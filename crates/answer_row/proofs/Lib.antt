@@ -1,0 +1,2 @@
+-- Laws of a row that is found.
+pub mod Found

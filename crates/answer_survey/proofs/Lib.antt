@@ -1,0 +1,2 @@
+-- Laws of the survey's lines.
+pub mod Surveys

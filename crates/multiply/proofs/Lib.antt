@@ -1,0 +1,2 @@
+-- Laws of the product by halves.
+pub mod Halving

@@ -1,0 +1,3 @@
+-- Steps of the code that contracts need. Nobody need believe these: theorems tie them to the definitions.
+pub mod Pairs
+pub mod Identity

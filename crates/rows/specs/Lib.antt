@@ -1,0 +1,7 @@
+-- Rows: their order, what is refused of the values, when they are good, how they are compared, and the row that is demanded. To be believed: all but Steps.
+pub mod Lightest
+pub mod Candidates
+pub mod Shape
+pub mod Keys
+pub mod Demands
+pub mod Steps
