@@ -254,6 +254,7 @@ circulants-hold =
     and due-request 5 7 9 _ refl
     and due-request 5 7 2 _ refl
     and due-request 5 19 2 _ refl
+    and due-request 5 19 8 _ refl
     and not-six Circulant 19 8 (from-one 8) refl eight
     and due-request 5 7 2 _ refl
     and due-request 5 7 2 _ refl

@@ -230,6 +230,7 @@ circulantLines =
     requests 5 7 9 (1 ∷ []) (answer 5 []) ∷
     requests 5 7 2 [] (answer 6 []) ∷
     requests 5 19 2 (tabulate 9 suc) (answer 6 []) ∷
+    requests 5 19 8 (tabulate 9 suc) (answer 6 []) ∷
     not-given 5 19 8 (tabulate 8 suc) 6 ∷
     requests 5 7 2 (4 ∷ []) (answer 7 []) ∷
     requests 5 7 2 (0 ∷ []) (answer 8 []) ∷
