@@ -13,7 +13,7 @@ use Rattle.rows.specs.declared.Family.{Family}
 use Rattle.rows.specs.declared.Family.the-variants.{Hadamard, Circulant}
 use Rattle.rows.specs.Keys.{sumOf}
 use Rattle.rows.specs.Demands.{countOfRow, Demanded}
-use Rattle.rows.specs.Steps.Families.{OrderOf}
+use Rattle.cuts.specs.Steps.Families.{OrderOf}
 use Rattle.rows.proofs.HadamardRows.{power}
 use Rattle.text.specs.Reading.{kindOf, polynomialOf, orderOf, valuesOf}
 use Rattle.reply.specs.Due.{searchNumber, rowLines, due}

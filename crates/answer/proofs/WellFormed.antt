@@ -15,7 +15,7 @@ use Rattle.rows.specs.declared.Family.{Family}
 use Rattle.rows.specs.Lightest.{Best}
 use Rattle.rows.specs.Shape.{shapeOf}
 use Rattle.rows.specs.Keys.{lightestRow}
-use Rattle.rows.specs.Steps.Families.{OrderOf}
+use Rattle.cuts.specs.Steps.Families.{OrderOf}
 use Rattle.rows.specs.Candidates.{someTooLarge, someBad}
 use Rattle.search.specs.Answer.{isWrongOrderFor, isWrongCountFor, isNone, searchFaults}
 use Rattle.lightest.proofs.LetterCounts.{member-fits}

@@ -29,7 +29,7 @@ use Rattle.rows.specs.Keys.{sumOf, lightestRow, keyOf}
 use Rattle.rows.proofs.Demands.{NoZero}
 use Rattle.rows.proofs.Rows.{mem-rows, sorted-rows, getD-mem}
 use Rattle.rows.proofs.Lightest.{row-sorted}
-use Rattle.rows.proofs.Families.{family-most, family-least}
+use Rattle.cuts.proofs.Families.{family-most, family-least}
 use Rattle.rows.specs.Candidates.{someTooLarge, someBad}
 use Rattle.search.specs.Answer.{isWrongOrderFor, isWrongCountFor, isNone, searchFaults, RowFound, noRow, rowFound, searchAnswer, saysOutcome}
 use Rattle.lightest.proofs.LetterCounts.{member-nonzero}

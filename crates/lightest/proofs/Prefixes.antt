@@ -30,13 +30,13 @@ use Rattle.matrix.proofs.Squares.{each-every}
 use Rattle.rows.specs.Lightest.{Best, nothing, found, lighter, keep, keepAll, member}
 use Rattle.rows.specs.Shape.{isGood}
 use Rattle.rows.specs.Keys.{sumOf, depthOfRow, keyOf}
-use Rattle.rows.specs.Steps.Cuts.{Cuts, mayStand, passes, AllStand, tried, Whole}
+use Rattle.cuts.specs.Steps.Cuts.{Cuts, mayStand, passes, AllStand, tried, Whole}
 use Rattle.rows.specs.Steps.Walk.{completions, branches}
 use Rattle.rows.proofs.Rows.{member-mem, mem-words, getD-mem}
 use Rattle.rows.proofs.Lightest.{keep-cases}
 use Rattle.rows.proofs.Keys.{Less, LessOrSame, key-lt}
 use Rattle.rows.proofs.Walk.{mem-completions, extend-none, extend-suc, branches-suc, branches-zero}
-use Rattle.rows.proofs.Pruning.{stands-front, skip-stand, skip-bound, OnlyLast, last-letter, last-none}
+use Rattle.cuts.proofs.Pruning.{stands-front, skip-stand, skip-bound, OnlyLast, last-letter, last-none}
 use Rattle.lightest.specs.declared.Best.{Best as Kept}
 use Rattle.lightest.specs.Steps.Prefix.{kept, bestAs, isHeavier, isHeavy, Reached, AtPrefix, NextLetter}
 use Rattle.lightest.proofs.LetterCounts.{table-knows, table-count, least-le, least-most}

@@ -18,7 +18,7 @@ use Rattle.lines.specs.Counts.{total, elementCount}
 use Rattle.rows.specs.Lightest.{Best, nothing, found, keepAll, lightest, member, ascending}
 use Rattle.rows.specs.Shape.{Shape, isGood}
 use Rattle.rows.specs.Keys.{keyOf, lightestRow}
-use Rattle.rows.specs.Steps.Cuts.{Cuts, tried}
+use Rattle.cuts.specs.Steps.Cuts.{Cuts, tried}
 use Rattle.rows.specs.Steps.Walk.{completions}
 use Rattle.rows.proofs.Rows.{member-mem, mem-ascending, mem-rows, sorted-rows, getD-mem}
 use Rattle.rows.proofs.Lightest.{row-sorted}

@@ -6,7 +6,7 @@ ghost use Rattle.field.specs.Polynomial.{Modulus};
 ghost use Rattle.rows.specs.Candidates.{someTooLarge, someBad};
 ghost use Rattle.rows.specs.Shape.{shapeOf};
 ghost use Rattle.rows.specs.Keys.{lightestRow};
-ghost use Rattle.rows.specs.Steps.Families.{OrderOf};
+ghost use Rattle.cuts.specs.Steps.Families.{OrderOf};
 ghost use Rattle.lightest.specs.Steps.Prefix.{kept};
 use rows::Family;
 

@@ -11,14 +11,13 @@ ghost use Rattle.lines.specs.Steps.Figures.{onesTable, CountsOf, leastDepth};
 ghost use Rattle.rows.specs.Lightest.{found, keepAll};
 ghost use Rattle.rows.specs.Shape.{shapeOf, isGood};
 ghost use Rattle.rows.specs.Keys.{keyOf};
-ghost use Rattle.rows.specs.Steps.Cuts.{tried, Whole};
+ghost use Rattle.cuts.specs.Steps.Cuts.{tried, Whole};
 ghost use Rattle.rows.specs.Steps.Walk.{completions};
-ghost use Rattle.rows.specs.Steps.Families.{isNextOf, cutsOf};
+ghost use Rattle.cuts.specs.Steps.Families.{isNextOf, cutsOf};
 ghost use Rattle.lightest.specs.Steps.Prefix.{kept, bestAs, isHeavier, isHeavy, AtPrefix, NextLetter};
 use crate::Best;
+use cuts::hadamard;
 use rows::Family;
-use rows::cuts;
-use rows::hadamard;
 
 // Whether a row that counts at least the bound is heavier than the row kept.
 fn is_heavier(bound: u32, best: Best) -> bool

@@ -6,7 +6,7 @@ use Prim.Native.Nat.{ℕ, _+_, _-_, _%_, _≤_, _<_}
 use native.Mathlib.Nat.{mod-eq-of-lt, mod-lt, add-mod-left}
 use native.Mathlib.Omega.{arith}
 use Rattle.algebra.proofs.Sums.{le-or-lt}
-use Rattle.rows.specs.Steps.Circulant.{fourthAround}
+use Rattle.rows.specs.Steps.Around.{fourthAround}
 
 -- ---- one number modulo n
 

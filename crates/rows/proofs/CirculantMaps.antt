@@ -17,7 +17,8 @@ use Rattle.field.specs.Polynomial.{firstBelow}
 use Rattle.field.specs.Steps.{everyBelow}
 use Rattle.matrix.proofs.Squares.{every-each, every-fails}
 use Rattle.rows.specs.Lightest.{Earlier, lightest}
-use Rattle.rows.specs.Steps.Circulant.{CirculantOrder, primePlaces, placeBelow}
+use Rattle.rows.specs.Steps.Orders.{CirculantOrder}
+use Rattle.rows.specs.Steps.Around.{primePlaces, placeBelow}
 use Rattle.rows.proofs.Rows.{Sorted, earlier-at, sorted-words, mem-words, getD-mem}
 use Rattle.rows.proofs.Lightest.{canonical-suffices}
 use Rattle.rows.proofs.IndexMaps.{and-split}

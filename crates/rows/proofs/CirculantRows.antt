@@ -24,7 +24,8 @@ use Rattle.rows.specs.Lightest.{ascending, lightest, rowsOver}
 use Rattle.rows.specs.Shape.{rowMatrix, isGood, circulantShape}
 use Rattle.rows.specs.Keys.{depthOfRow, keyOf, lightestRow}
 use Rattle.rows.specs.Demands.{CirculantMds}
-use Rattle.rows.specs.Steps.Circulant.{CirculantOrder, fourthAround}
+use Rattle.rows.specs.Steps.Orders.{CirculantOrder}
+use Rattle.rows.specs.Steps.Around.{fourthAround}
 use Rattle.rows.proofs.Rows.{sorted-ascending}
 use Rattle.rows.proofs.Keys.{key-permuted}
 use Rattle.rows.proofs.Around.{placeAround, place-lt, mod-once}

@@ -28,7 +28,8 @@ use Rattle.matrix.proofs.Theorems.{mds-is-regular}
 use Rattle.rows.specs.Lightest.{member, among, ascending, rowsOver, Earlier, differs, agrees, Best, nothing, found, lighter, keep, keepAll, lightest}
 use Rattle.rows.specs.Steps.IndexMaps.{canonical}
 use Rattle.rows.specs.Shape.{isGood, hadamardShape, circulantShape}
-use Rattle.rows.specs.Steps.Circulant.{CirculantOrder, primePlaces, placeBelow}
+use Rattle.rows.specs.Steps.Orders.{CirculantOrder}
+use Rattle.rows.specs.Steps.Around.{primePlaces, placeBelow}
 use Rattle.rows.specs.Keys.{sumOf, depthOfRow, keyOf, lightestRow}
 use Rattle.rows.proofs.Rows.{Sorted, end, then, earlier-cast, sorted-append, sorted-map, getD-mem, mem-words, sorted-ascending, sorted-rows}
 use Rattle.rows.proofs.Lightest.{same-lightest}

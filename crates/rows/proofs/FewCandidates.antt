@@ -12,7 +12,7 @@ use Rattle.algebra.specs.Matrix.{isMds}
 use Rattle.field.specs.Polynomial.{Modulus, degree}
 use Rattle.rows.specs.Shape.{isGood, hadamardShape}
 use Rattle.rows.specs.Demands.{Both}
-use Rattle.rows.specs.Steps.Hadamard.{SearchOrder}
+use Rattle.rows.specs.Steps.Orders.{SearchOrder}
 use Rattle.rows.proofs.Rows.{mem-at, getD-mem}
 use Rattle.rows.proofs.HadamardRows.{good-hadamard, good-different, over-in-field}
 

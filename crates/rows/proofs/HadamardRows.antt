@@ -25,7 +25,7 @@ use Rattle.rows.specs.Lightest.{ascending, lightest, rowsOver}
 use Rattle.rows.specs.Steps.IndexMaps.{Move, from, moves, moved, canonical}
 use Rattle.rows.specs.Shape.{rowMatrix, isGood, hadamardShape}
 use Rattle.rows.specs.Keys.{depthOfRow, keyOf, lightestRow}
-use Rattle.rows.specs.Steps.Hadamard.{SearchOrder}
+use Rattle.rows.specs.Steps.Orders.{SearchOrder}
 use Rattle.rows.proofs.Rows.{getD-mem, mem-words, mem-ascending, sorted-ascending}
 use Rattle.rows.proofs.Keys.{key-permuted}
 use Rattle.rows.proofs.IndexMaps.{moves-sound, moves-inverse, canonical-rows}

@@ -1,19 +1,14 @@
--- The theory of rows, and the laws that the cuts are proved by.
+-- The theory of rows.
 pub mod Rows
 pub mod Lightest
 pub mod Keys
 pub mod Around
 pub mod Demands
 pub mod Walk
-pub mod Pruning
 pub mod IndexMaps
 pub mod HadamardRows
 pub mod CirculantMaps
 pub mod CirculantRows
 pub mod Executable
-pub mod PlaneCuts
-pub mod HadamardCuts
-pub mod CirculantCuts
-pub mod Families
 pub mod FewCandidates
 pub mod RowsBefore

@@ -1,7 +1,5 @@
 -- Steps of the code that contracts need. Nobody need believe these: theorems tie them to the definitions.
+pub mod Orders
+pub mod Around
 pub mod Walk
 pub mod IndexMaps
-pub mod Cuts
-pub mod Hadamard
-pub mod Circulant
-pub mod Families

@@ -1,8 +1,4 @@
-// Rows over the candidates of a brief: which of them a walk tries, and which are good.
-
-pub mod circulant;
-pub mod cuts;
-pub mod hadamard;
+// Rows over the candidates of a brief. No code: the definitions are in specs/, the theorems in proofs/.
 
 // The matrices that are searched for: Hadamard involutions, or circulant matrices.
 pub enum Family {

@@ -22,7 +22,7 @@ use Rattle.rows.specs.declared.Family.{Family}
 use Rattle.rows.specs.declared.Family.the-variants.{Hadamard, Circulant}
 use Rattle.rows.specs.Lightest.{Best, member}
 use Rattle.rows.specs.Keys.{sumOf}
-use Rattle.rows.specs.Steps.Families.{OrderOf}
+use Rattle.cuts.specs.Steps.Families.{OrderOf}
 use Rattle.lightest.specs.declared.Best.{Best as Kept}
 use Rattle.rows.specs.Candidates.{someTooLarge, someRepeated, someBad}
 use Rattle.search.specs.Answer.{isWrongSearchOrder, isWrongSearchCount, isWrongCirculantOrder, isWrongCirculantCount, isWrongOrderFor, isNone, RowFound, noRow, rowFound}

@@ -2,8 +2,8 @@
 use mathlib.Core.Path.{sym}
 use native.Mathlib.Omega.{arith}
 use lib.Seq.{length-take-le}
-use Rattle.rows.specs.Steps.Families.{cutsOf}
-use Rattle.rows.proofs.Families.{family-most, family-least, family-rows}
+use Rattle.cuts.specs.Steps.Families.{cutsOf}
+use Rattle.cuts.proofs.Families.{family-most, family-least, family-rows}
 use Rattle.lightest.proofs.LetterCounts.{listed-fits}
 use Rattle.lightest.proofs.Start.{start-at, start-answer}
 use borrow.Author.Needs.{needs}

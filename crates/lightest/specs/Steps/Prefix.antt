@@ -9,7 +9,7 @@ use Rattle.field.specs.Polynomial.{Modulus, degree}
 use Rattle.lines.specs.Counts.{elementCount}
 use Rattle.rows.specs.Lightest.{Best, nothing, found}
 use Rattle.rows.specs.Keys.{sumOf, depthOfRow}
-use Rattle.rows.specs.Steps.Cuts.{Cuts, AllStand}
+use Rattle.cuts.specs.Steps.Cuts.{Cuts, AllStand}
 use Rattle.lightest.specs.declared.Best.{Best as Kept}
 use Rattle.lightest.specs.Steps.Letters.{countTable, leastCount}
 

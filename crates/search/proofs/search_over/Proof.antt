@@ -10,7 +10,7 @@ use Rattle.field.specs.Faults.{polynomialFaults}
 use Rattle.field.proofs.Calls.{modulus-passed}
 use Rattle.rows.specs.Lightest.{Best}
 use Rattle.rows.specs.Shape.{shapeOf}
-use Rattle.rows.proofs.Families.{family-most}
+use Rattle.cuts.proofs.Families.{family-most}
 use Rattle.rows.specs.Candidates.{someTooLarge, someBad}
 use Rattle.search.specs.Answer.{isWrongOrderFor, isWrongCountFor, isNone, RowFound, noRow, rowFound, searchFaults, searchAnswer}
 use Rattle.search.proofs.Refusals.{family-order}

@@ -10,10 +10,10 @@ use borrow.Author.Tests.{eqb-true, not-true, not-false}
 use Rattle.rows.specs.Lightest.{keepAll}
 use Rattle.rows.specs.Steps.Walk.{completions, branches}
 use Rattle.rows.specs.Keys.{keyOf}
-use Rattle.rows.specs.Steps.Cuts.{mayStand, tried}
-use Rattle.rows.specs.Steps.Families.{cutsOf}
-use Rattle.rows.proofs.Pruning.{OnlyLast, stand-not-next, stand-not-blocks, stand-both}
-use Rattle.rows.proofs.Families.{family-back, family-forced, forced-last, family-free}
+use Rattle.cuts.specs.Steps.Cuts.{mayStand, tried}
+use Rattle.cuts.specs.Steps.Families.{cutsOf}
+use Rattle.cuts.proofs.Pruning.{OnlyLast, stand-not-next, stand-not-blocks, stand-both}
+use Rattle.cuts.proofs.Families.{family-back, family-forced, forced-last, family-free}
 use Rattle.lightest.specs.Steps.Prefix.{kept, bestAs}
 use Rattle.lightest.proofs.Prefixes.{level-inside, level-fits, count-small, bound-small, letter-small, branch-left, branch-heavy, branch-heavier}
 use Rattle.lightest.proofs.Prefixes.{prefix-next, in-field-next, in-field-suc, counts-next, counts-whole, at-next, whole-next, branch-whole}
@@ -21,10 +21,10 @@ use Rattle.lightest.proofs.Prefixes.{upto-none, upto-letter, upto-at, u
 use borrow.Author.Needs.{needs}
 use borrow.Fn.Kinds.{In}
 use borrow.Fn.PlainCycle.{Measures, is, falls, and}
-use Rattle.rows.proofs.hadamard.last_letter.Reads as last-letter-reads
-use Rattle.rows.proofs.cuts.is_next.Reads as is-next-reads
-use Rattle.rows.proofs.cuts.blocks_pass.Reads as blocks-pass-reads
-use Rattle.rows.proofs.cuts.is_forced.Reads as is-forced-reads
+use Rattle.cuts.proofs.hadamard.last_letter.Reads as last-letter-reads
+use Rattle.cuts.proofs.is_next.Reads as is-next-reads
+use Rattle.cuts.proofs.blocks_pass.Reads as blocks-pass-reads
+use Rattle.cuts.proofs.is_forced.Reads as is-forced-reads
 use Rattle.lightest.proofs.prefix.branch.Reads as branch
 use Rattle.lightest.proofs.prefix.branch.Kinds as branch-kinds
 use Rattle.lightest.proofs.prefix.+branch+extend+grow.Lts-branch as branch-lts

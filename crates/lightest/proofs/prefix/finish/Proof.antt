@@ -3,7 +3,7 @@ use mathlib.Core.Path.{sym, ap, _∙_}
 use mathlib.Core.Bool.{cond}
 use lib.ListN.{take}
 use Rattle.rows.specs.Lightest.{found}
-use Rattle.rows.proofs.Families.{family-most}
+use Rattle.cuts.proofs.Families.{family-most}
 use Rattle.lightest.specs.Steps.Prefix.{kept, bestAs}
 use Rattle.lightest.proofs.Prefixes.{kept-row}
 use borrow.Author.Needs.{needs}
