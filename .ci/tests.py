@@ -343,9 +343,14 @@ class Ask(Place):
             self.refused(2, words.split())
         for words in ("circulant", "circulant 7", "circulant 7 x 1", "circulant --verilog 7 2 2 3", "circulants 7 2 2 3"):
             self.refused(2, words.split())
+        for words in ("walk", "walk 19", "walk x 4 1", "walk --budget", "walk --budget 1", "walk --budget 1 19", "walk --budget x 19 4 1"):
+            self.refused(2, words.split())
+        for words in ("walk --budget 1000000 19 4 1", "walk --budget -1 19 4 1", "walk 19 --budget 1 4 1", "search --budget 1 19 4 1"):
+            self.refused(2, words.split())
         for word in ("1000000", "9" * 5000, "0x" + "f" * 5000, "x" * 5000, "1\n2", "\udcff"):
             self.assertLess(len(self.refused(2, ["survey", word])), 120)
         self.refused(2, ["search", "19", "4"] + ["1"] * 672)
+        self.refused(2, ["walk", "19", "4"] + ["1"] * 671)
 
     def test_help_wherever_it_is_asked_for(self):
         for words in (["--help"], ["-h"], ["search", "--help"], ["survey", "4", "-h"]):
@@ -353,6 +358,8 @@ class Ask(Place):
             self.assertEqual((status, said), (0, ""))
             self.assertIn("./ask search POLYNOMIAL", shown)
             self.assertIn("./ask circulant POLYNOMIAL", shown)
+            self.assertIn("./ask walk POLYNOMIAL", shown)
+            self.assertIn("./ask walk --budget ROWS POLYNOMIAL", shown)
 
     def test_what_is_no_program(self):
         write(os.path.join(self.place, "text"), "no program")
@@ -453,6 +460,103 @@ class Circulant(Place):
             self.assertEqual(run([os.path.join(ROOT, "ask"), "circulant", *words], timeout=600), self.asked(words))
 
 
+class Walk(Place):
+    """./ask walk, by the second program, whose walks are those of ./rowfind, as second/compare shows."""
+
+    BRIEF = "--budget 1 19 4 1 4 9 13".split()
+    EXAMPLE = ["--budget", "300", "19", "4", *map(str, range(1, 16))]
+
+    def asked(self, words, rowfind=rowtext.SECOND):
+        return run([os.path.join(ROOT, "ask"), "walk", *words], env=dict(os.environ, ROWFIND=rowfind))
+
+    def words(self, words):
+        """The words beside the answer of a walk that is accepted."""
+        status, shown, said = self.asked(words.split())
+        self.assertEqual((status, said), (0, ""))
+        return [line.split("  | ")[1] for line in shown.split("answer\n")[1].splitlines()]
+
+    def test_the_best_row_yet_in_words(self):
+        status, shown, said = self.asked(self.EXAMPLE)
+        self.assertEqual((status, said), (0, ""))
+        asked, answer = shown.split("answer\n")
+        self.assertEqual(asked, "request\n" + reference.EXAMPLE_WALK.decode())
+        lines = [line.split("  | ") for line in answer.splitlines()]
+        self.assertEqual([raw.rstrip() for raw, _ in lines[:2]], reference.EXAMPLE_WALK_ANSWER.decode().splitlines())
+        words = [word for _, word in lines]
+        self.assertEqual(words[:3], ["rows tried: 300 of 32760", "the best row yet: 1 2 4 6", "in hexadecimal: 0x1 0x2 0x4 0x6"])
+        self.assertIn("of the rows tried it has the least count, of equal counts the least depth", words[3])
+        self.assertEqual(words[4:6], ["XOR count of the row, with the sums: 20", "bound: no row of different candidates counts less than 16"])
+        self.assertIn("not finished: a larger budget", words[6])
+        self.assertEqual(words[7:], ["next: --budget 32760 tries them all"])
+
+    def test_the_bound_that_is_reached(self):
+        words = self.words(" ".join(self.BRIEF))
+        self.assertIn("the bound is reached", words[-3])
+        self.assertEqual([words[0], words[-1]], ["rows tried: 1 of 24", "next: --budget 24 tries them all"])
+
+    def test_a_finished_walk(self):
+        for budget in ("--budget 24", "--budget 25", "--budget 0xffff", ""):
+            words = self.words(f"{budget} 19 4 0xd 9 4 1")
+            self.assertEqual(words[:2], ["rows tried: 24 of 24", "the lightest row: 1 4 9 13"])
+            self.assertTrue(words[3].startswith("it has the least count"))
+            self.assertTrue(words[-1].startswith("finished: every row has been tried"))
+            self.assertFalse(any("next" in word or "is reached" in word for word in words))
+
+    def test_no_row_yet(self):
+        words = self.words("--budget 0 19 4 1 2 4 8")
+        self.assertEqual(words[:2], ["rows tried: 0 of 24", "no row yet: none of those tried is MDS and an involution"])
+        self.assertEqual(words[2], "bound: no row of different candidates counts less than 18")
+        self.assertEqual(words[-1], "next: --budget 24 tries them all")
+
+    def test_more_rows_than_the_largest_budget(self):
+        sixteen = " ".join(map(str, range(1, 17)))
+        words = self.words(f"283 8 {sixteen}")
+        self.assertEqual([words[0], words[1]], ["rows tried: 999999 of 518918400", "the best row yet: 1 2 3 9 4 10 8 14"])
+        self.assertEqual(words[-1], "next: no budget is larger; ./ask search finds the lightest of all rows")
+        words = self.words(f"--budget 10 283 8 {sixteen}")
+        self.assertEqual(words[-1], "next: the largest budget is 999999; ./ask search finds the lightest of all rows")
+
+    def test_a_refusal(self):
+        briefs = ("3 4 1", "21 4 1", "19 5 1", "19 4", "283 8 " + "1 " * 17, "19 4 16", "19 4 1 0", "19 4 1 1", "19 4 1 2 4 8", "19 4 1 4 9")
+        for words, number in zip(briefs, (3, 4, 5, 6, 6, 7, 8, 8, 9, 9)):
+            for budget in ("", "--budget 24 "):
+                status, shown, said = self.asked((budget + words).split())
+                self.assertEqual((status, said), (1, ""))
+                self.assertIn(f"refused with {number}: {rowtext.MEANINGS[number]}", shown)
+        self.assertIn("refused with 9", self.asked("--budget 0 19 4 1 4 9".split())[1])
+
+    def test_what_is_no_answer_text(self):
+        program, answer = os.path.join(self.place, "program"), reference.WALK_ANSWER.decode()
+        head, row = answer[:31], answer[31:]
+        texts = [head, row, answer[:-7] + "\n", answer[:-1] + "     4\n", answer + row, "     0\n", "    10\n", reference.WORKED_ANSWER.decode()]
+        texts += [text + row for text in ("     0     1     1    18    18\n", "     0     0     2    18    18\n", "     0     0     0    18    18\n")]
+        texts += [text + row for text in ("     0     0     1    17    18\n", "     0     0     1999999    18\n", "     0     2     1    18    18\n")]
+        texts += [head + "     0     0     0     0\n"]
+        for text in texts:
+            write(program, f"#!/usr/bin/env bash\ncat >/dev/null\nprintf '{text}'\n")
+            status, _, said = self.asked(self.BRIEF, program)
+            self.assertEqual((status, said.count("\n")), (3, 1), text)
+            self.assertIn("something else than an answer text", said)
+        write(program, f"#!/usr/bin/env bash\ncat >/dev/null\nprintf '{answer}'\n")
+        self.assertEqual(self.asked(self.BRIEF, program)[0], 0)
+        # The same answer to another budget, or a finished walk without a row.
+        self.assertEqual(self.asked("--budget 2 19 4 1 4 9 13".split(), program)[0], 3)
+        write(program, "#!/usr/bin/env bash\nprintf '     0     1    24999999    18\\n     0     0     0     0\\n'\n")
+        self.assertEqual(self.asked("19 4 1 4 9 13".split(), program)[0], 3)
+
+    def test_the_example(self):
+        self.assertEqual(read(os.path.join(ROOT, "examples", "walk.txt")), reference.EXAMPLE_WALK.decode())
+
+    def test_the_readme_shows_the_example(self):
+        page = read(os.path.join(ROOT, "README.md"))
+        self.assertTrue("./ask walk " + " ".join(self.EXAMPLE) + "\n" in page)
+        self.assertTrue(self.asked(self.EXAMPLE)[1] in page)
+
+    def test_the_proved_program_gives_the_same_walk(self):
+        for words in (self.BRIEF, self.EXAMPLE, "--budget 23 19 4 1 2 4 8".split(), "19 4 1 2 4 8".split(), "415 8 22 23 52 53 74 75 104 105 146".split()):
+            self.assertEqual(run([os.path.join(ROOT, "ask"), "walk", *words], timeout=600), self.asked(words))
+
+
 class Verilog:
     """A module of the few forms that ./ask writes, read strictly: ValueError at anything else. Each wire is declared once, each
     wire and each output bit is assigned once, and only what is an input bit or assigned already is read."""
@@ -517,6 +621,11 @@ class Verilog:
             value[name] = value[one] ^ value[other]
         bits = [value[self.carriers[name][0]] for name in self.bits("y")]
         return [sum(bit << j for j, bit in enumerate(bits[k : k + self.degree])) for k in range(0, len(bits), self.degree)]
+
+
+def rows_of(count, n):
+    """How many rows of n different candidates there are, of so many."""
+    return functools.reduce(operator.mul, range(count - n + 1, count + 1), 1) if count >= n else 0
 
 
 def product(p, n, entries, words):
@@ -674,7 +783,7 @@ class Comparison(Place):
     def test_the_second_program_is_not_compared_with_itself(self):
         copy = shutil.copy(rowtext.SECOND, self.place)
         for program in (rowtext.SECOND, copy):
-            for script in ("second/cases", "second/compare", "second/sources", "bench/run"):
+            for script in ("second/cases", "second/compare", "second/sources", "bench/run", "bench/walks"):
                 self.assertIn("compared with itself", self.told([script], ROWFIND=program))
 
     def test_no_program_to_compare(self):
@@ -687,7 +796,7 @@ class Comparison(Place):
             self.assertIn("no part 'nothing'", self.told([script, "nothing"]))
 
     def test_a_missing_command_is_named(self):
-        for script, command in (("second/compare", "cargo"), ("second/calls", "cargo"), ("bench/run", "cargo")):
+        for script, command in (("second/compare", "cargo"), ("second/calls", "cargo"), ("bench/run", "cargo"), ("bench/walks", "cargo")):
             self.assertIn(f"the command {command}", self.told([script], PATH=self.bin))
 
     def test_without_rt_one_line_says_what_is_missing(self):
@@ -748,9 +857,9 @@ class Comparison(Place):
         self.assertEqual([compare.is_decided(text) for text in texts], [False, True])
         parts, expected = ["ties_of_order_four", "ties_of_order_four", "sizes"], [rowtext.line([0])] * 3
         decided = compare.decided_by_depth(parts, [*texts, texts[1]], expected)
-        self.assertEqual(decided, {"ties_of_order_four": 1, "ties_of_order_eight": 0, "ties_of_circulants": 0})
-        self.assertEqual(len(list(compare.too_few(decided))), 3)
-        self.assertEqual(len(list(compare.too_few(dict(decided, ties_of_order_four=1000)))), 2)
+        self.assertEqual(decided, dict.fromkeys(compare.LEAST_DECIDED, 0) | {"ties_of_order_four": 1})
+        self.assertEqual(len(list(compare.too_few(decided))), 4)
+        self.assertEqual(len(list(compare.too_few(dict(decided, ties_of_order_four=1000)))), 3)
         self.assertEqual(list(compare.too_few(compare.LEAST_DECIDED)), [])
 
     def test_sets_with_ties_have_them(self):
@@ -783,6 +892,84 @@ class Comparison(Place):
         for old, new in changes:
             self.assertIn(old, right)
             self.assertTrue(compare.circulant_fault(server, 283, 4, right.replace(old, new, 1)), (old, new))
+
+    def test_where_depth_decides_a_walk_is_seen(self):
+        compare, dice = load("second/compare"), random.Random(5)
+        texts = [compare.walk(31, 4, list(range(1, 16)), budget) for budget in (0, 131, 132, 32760)]
+        self.assertEqual([compare.is_decided(text) for text in texts], [False, False, True, True])
+        for m in (4, 6, 8):
+            drawn = [samples.tied(dice, m, 4) for _ in range(8)]
+            texts = [compare.walk(p, 4, candidates, 360) for p, candidates in drawn]
+            accepted = [text for text in texts if rowtext.run(rowtext.SECOND, text).startswith(compare.ACCEPTED)]
+            self.assertGreater(sum(map(compare.is_decided, accepted)), 2, m)
+
+    def test_every_search_comes_as_a_walk(self):
+        compare, worked = load("second/compare"), reference.WORKED_REQUEST
+        asked = compare.as_walk(worked)
+        self.assertEqual((asked[:24], asked[30:]), (b"     6" + worked[6:24], worked[24:]))
+        self.assertEqual(compare.without_budget(asked), worked)
+        for damaged in (worked[:-1], worked[:24], worked[:7], b"     1", b"     1    19     x     4\n", b"     1    19     4     y\n"):
+            self.assertEqual(compare.as_walk(damaged), compare.as_walk(damaged))
+            self.assertTrue(compare.as_walk(damaged).startswith(b"     6"))
+        self.assertEqual([kind[:6] for _, kind in compare.both_kinds("part", worked)], [b"     1", b"     6"])
+
+    def test_budgets_are_about_the_number_of_rows_and_never_long(self):
+        compare, dice = load("second/compare"), random.Random(1)
+        for n, count in ((4, 4), (4, 3), (4, 15), (8, 8), (8, 7)):
+            rows = rows_of(count, n)
+            drawn = {compare.some_budget(dice, n, count) for _ in range(400)}
+            self.assertTrue({0, 1, max(rows - 1, 0), rows, rows + 1, 999999} <= drawn, (n, count))
+        for n, count in ((4, 255), (8, 16), (8, 9)):
+            drawn = {compare.some_budget(dice, n, count) for _ in range(400)}
+            self.assertTrue({0, 1} <= drawn and 10000 < max(drawn) <= compare.FEW_ROWS)
+        self.assertEqual(sum(text[24:30] == b"999999" for text in compare.long_walks()), len(list(compare.long_walks())))
+        self.assertLess(len(list(compare.long_walks())), 40)
+
+    def test_a_wrong_walk_is_seen(self):
+        compare, right = load("second/compare"), reference.WALK_ANSWER
+        asked, search = reference.WALK_REQUEST, reference.WORKED_ANSWER
+        finished = asked.replace(b"     1\n", b"    24\n", 1), right.replace(b"     0     0     1", b"     0     1    24", 1)
+        for text, answer in ((asked, right), finished):
+            self.assertEqual([compare.walk_fault(text, answer, beside) for beside in (None, search)], ["", ""])
+        changes = (
+            (b"     0     0     1", b"     0     1     1"), (b"     0     0     1", b"     0     0     2"), (b"     1    18", b"     0    18"),
+            (b"    18    18", b"    17    18"), (b"    18    18", b"999999    18"), (b"    13\n", b"    14\n"), (b"     4     9", b"     9     9"),
+            (b"    13\n", b"\n"), (b"    13\n", b"    13     1\n"), (right, right + right), (right, b"     0\n"), (right, b"     0     6    18    72\n"),
+        )
+        for old, new in changes:
+            self.assertIn(old, right)
+            self.assertTrue(compare.walk_fault(asked, right.replace(old, new, 1), None), (old, new))
+        # Beside the search: refused otherwise, finished with another row, and lighter than the lightest.
+        text, answer = finished
+        for beside in (rowtext.line([9]), search.replace(b"    18", b"    20"), search.replace(b"     1     4", b"     4     1")):
+            self.assertTrue(compare.walk_fault(text, answer, beside), beside)
+        self.assertTrue(compare.walk_fault(asked, right, search.replace(b"    18", b"    20")))
+        self.assertTrue(compare.walk_fault(asked, rowtext.line([9]), search))
+        self.assertEqual(compare.walk_fault(asked, rowtext.line([9]), rowtext.line([9])), "")
+        none_yet = rowtext.line([0, 0, 1, 999999, 18]) + rowtext.line([0, 0, 0, 0])
+        self.assertEqual(compare.walk_fault(asked, none_yet, rowtext.line([9])), "")
+        self.assertTrue(compare.walk_fault(text, none_yet.replace(b"     0     0     1", b"     0     1    24"), rowtext.line([9])))
+
+    def test_a_walk_that_gets_worse_is_seen(self):
+        compare = load("second/compare")
+        told = {}
+        for budget, count in ((1, 18), (2, 18), (3, 20)):
+            text = reference.WALK_REQUEST.replace(b"     1\n", b"%6d\n" % budget, 1)
+            told[text] = rowtext.line([0, 0, budget, count, 18]) + rowtext.line([1, 4, 9, 13])
+        self.assertEqual(len(list(compare.differing_walks(told))), 1)
+        del told[text]
+        self.assertEqual(list(compare.differing_walks(told)), [])
+        told[reference.WORKED_REQUEST] = rowtext.line([9])
+        self.assertEqual(len(list(compare.differing_walks(told))), 2)
+
+    def test_too_few_walks_are_seen(self):
+        compare = load("second/compare")
+        texts, answers = zip(*((text, answer) for _, text, answer in reference.walk_lines()))
+        met = compare.walks_met([*texts, reference.WORKED_REQUEST], [*answers, reference.WORKED_ANSWER])
+        self.assertEqual(sum(met.values()), len(texts))
+        self.assertTrue(all(met.values()))
+        self.assertEqual(len(list(compare.too_few_walks(met))), 4)
+        self.assertEqual(list(compare.too_few_walks(compare.LEAST_WALKS)), [])
 
     def test_the_depth_of_a_printed_row(self):
         sources = load("second/sources")
@@ -832,6 +1019,20 @@ class Bench(Place):
         self.assertEqual((status, said), (0, ""))
         self.assertEqual([(read(path), os.stat(path).st_mtime_ns) for path in kept], before)
         self.assertIn("--quick", read(os.path.join(ROOT, "target", "bench", "RESULTS.md")))
+
+    def test_walks_are_timed_and_differences_seen(self):
+        words = [os.path.join(ROOT, "bench", "walks"), "--quick"]
+        for name, mode in (("rowfind", ""), ("calls", "calls")):
+            write(os.path.join(self.place, name), f"#!/usr/bin/env bash\nexec {rowtext.SECOND} {mode}\n")
+        environment = dict(os.environ, ROWFIND=os.path.join(self.place, "rowfind"), CALLS=os.path.join(self.place, "calls"))
+        status, shown, said = run(words, env=environment)
+        self.assertEqual((status, said), (0, ""))
+        self.assertIn("| nine candidates, all rows, over 19, order 8 | 0 1 362880 64 64 / 2 3 4 12 5 10 8 15 |", shown)
+        self.assertIn("million rows a second", shown)
+        write(os.path.join(self.place, "rowfind"), f"#!/usr/bin/env bash\ncat >/dev/null\nprintf '{reference.WALK_ANSWER.decode()}'\n")
+        for more in ([], ["--drawn", "2"]):
+            status, shown, _ = run([*words, *more], env=environment)
+            self.assertEqual((status, "the answers differ" in shown), (1, True))
 
     def test_the_c_program_finds_the_same_rows(self):
         measure.build_tuned()

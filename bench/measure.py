@@ -28,10 +28,12 @@ def cpu_clock():
 
 
 def timed(clock, program, text):
-    """(seconds, answer) of one run, the process start included; the answer is None where it was given up."""
+    """(seconds, answer) of one run of a program, a path or a list of words, the process start included; the answer is None where it was
+    given up."""
+    words = [program] if isinstance(program, str) else program
     start = clock()
     try:
-        answer = subprocess.run([program], input=text, stdout=subprocess.PIPE, timeout=LIMIT, check=False).stdout
+        answer = subprocess.run(words, input=text, stdout=subprocess.PIPE, timeout=LIMIT, check=False).stdout
     except subprocess.TimeoutExpired:
         answer = None
     return clock() - start, answer

@@ -1,5 +1,5 @@
 /* The row finder as a library: one request text to one answer text. The formats and numbers are those of the README. The kinds of
- * requests: 1 search, 2 check, 3 survey, 4 gates, 5 circulant.
+ * requests: 1 search, 2 check, 3 survey, 4 gates, 5 circulant, 6 walk, whose line one has a fifth number, the budget.
  *
  * Threads: every call may be made from any thread, and from several at once. The library has no state: a call reads its
  * request, writes to the space and the length that it is lent, and uses its own stack; it takes no memory from elsewhere. */
@@ -30,14 +30,14 @@ extern "C" {
  * The bytes of the space behind what is written keep their contents.
  *
  *  1  the text is not of the form, is too long, or has not as many values as its count says
- *  2  the kind is not 1, 2, 3, 4 or 5
+ *  2  the kind is not 1, 2, 3, 4, 5 or 6
  *  3  the polynomial is not in 4 to 511; for a survey, the degree is not in 2 to 8
  *  4  the polynomial is reducible
  *  5  the order is not allowed for the kind; for kind 5, it is not in 2 to 8
  *  6  the count is not allowed for the kind and order; for kind 5, it is not in 1 to 8
  *  7  a value is 2^m or more
  *  8  a candidate is 0 or repeated
- *  9  none: no row over the candidates is both an involution and MDS; for kind 5, none is MDS
+ *  9  none: no row over the candidates is both an involution and MDS, and for kind 6 every row was tried; for kind 5, none is MDS
  * 10  the lent space is shorter than the answer due
  *
  * request, space and length are not null, even where a length is 0; they do not overlap. */

@@ -1,7 +1,7 @@
 """The reference lines of document 01, with the counts of request One, the gates of request Two, the order of request Three, the
-rows of request Four, the worked example of request Five and the circulant rows of request Six, as whole request and answer texts, the
-products also as numbers; a text for each refusal."""
-from rowtext import ALWAYS_ZERO, CHECK, CIRCULANT, GATES, SEARCH, SURVEY, circulant, hadamard, line, request
+rows of request Four, the worked example of request Five, the circulant rows of request Six and the walks of request Seven, as whole
+request and answer texts, the products also as numbers; a text for each refusal."""
+from rowtext import ALWAYS_ZERO, CHECK, CIRCULANT, GATES, NONE_YET, SEARCH, SURVEY, WALK, circulant, hadamard, line, request
 
 WORKED_REQUEST = b"     1    19     4     4\n     1     4     9    13\n"
 WORKED_ANSWER = b"     0     6    18    72\n     1     4     9    13\n"
@@ -203,6 +203,86 @@ def circulant_depth_lines():
     yield "circulant 9 13, which is deeper", request(CIRCULANT, 19, 2, [3, 9, 13]), line([0, 4, 8, 16]) + line([9, 13])
 
 
+WALK_REQUEST = b"     6    19     4     4     1\n     1     4     9    13\n"
+WALK_ANSWER = b"     0     0     1    18    18\n     1     4     9    13\n"
+ALL_WALKED = b"""     6    19     4    15999999
+     1     2     3     4     5     6     7     8     9    10    11    12    13    14    15
+"""
+EXAMPLE_WALK = ALL_WALKED.replace(b"999999", b"   300")
+EXAMPLE_WALK_ANSWER = b"     0     0   300    20    16\n     1     2     4     6\n"
+
+
+def walk_text(p, n, candidates, budget):
+    return request(WALK, p, n, candidates, budget=budget)
+
+
+def walk_line(p, n, candidates, budget, told, row=None):
+    """A walk and its answer: finished, rows tried, count and bound, then the row; without one the count is 999999."""
+    name = f"walk of {budget} rows of order {n} over {p}, {len(candidates)} candidates from {candidates[0]} on"
+    return name, walk_text(p, n, candidates, budget), line([0, *told]) + line(row or [0] * n)
+
+
+def walk_lines():
+    """The best row yet. The first row over 1 4 9 13 is good; over 1 2 4 8 none of the 24 is."""
+    row, fifteen = [1, 4, 9, 13], list(range(1, 16))
+    yield "one row tried", WALK_REQUEST, WALK_ANSWER
+    yield "all fifteen walked", ALL_WALKED, b"     0     1 32760    18    16\n     1     4     9    13\n"
+    yield walk_line(19, 4, row, 0, [0, 0, NONE_YET, 18])
+    for budget in (2, 12, 23):
+        yield walk_line(19, 4, row, budget, [0, budget, 18, 18], row)
+    for budget in (24, 25, 999999):
+        yield walk_line(19, 4, row[::-1], budget, [1, 24, 18, 18], row)
+    for budget in (0, 1, 23):
+        yield walk_line(19, 4, [1, 2, 4, 8], budget, [0, budget, NONE_YET, 18])
+    for budget in (24, 25, 999999):
+        yield f"walk without a row, budget {budget}", walk_text(19, 4, [1, 2, 4, 8], budget), line([9])
+    # Fewer candidates than the order: no row to try, so the walk is finished.
+    for budget in (0, 1, 999999):
+        yield f"walk over three candidates, budget {budget}", walk_text(19, 4, [1, 4, 9], budget), line([9])
+        yield f"walk of order 8 over seven, budget {budget}", walk_text(19, 8, fifteen[:7], budget), line([9])
+    # 2 · 156 + 6 · 12 + 9 rows stand before 1 4 9 13, of 15 · 14 · 13 · 12; the lightest four candidates count 0 1 1 2. Before it
+    # stands 1 2 4 6, which counts 0 + 1 + 2 + 5 and 3 · 4.
+    yield "three hundred rows tried", EXAMPLE_WALK, EXAMPLE_WALK_ANSWER
+    yield walk_line(19, 4, fifteen, 393, [0, 393, 20, 16], [1, 2, 4, 6])
+    yield walk_line(19, 4, fifteen, 394, [0, 394, 18, 16], row)
+    yield walk_line(19, 4, fifteen, 32759, [0, 32759, 18, 16], row)
+    yield walk_line(19, 4, fifteen[::-1], 32760, [1, 32760, 18, 16], row)
+    yield walk_line(19, 4, fifteen, 32761, [1, 32760, 18, 16], row)
+    yield walk_line(19, 8, fifteen, 0, [0, 0, NONE_YET, 48])
+    yield from walk_depth_lines()
+    yield from walk_lines_of_order_eight()
+
+
+def walk_depth_lines():
+    """Of equal counts the least depth. Over 31 the row 1 2 4 6, the 15th, counts 24, as 1 2 13 15 does, the 132nd, which is shallower. The
+    lightest four candidates count 0 3 3 3."""
+    fifteen, changes = list(range(1, 16)), {15: [1, 2, 4, 6], 132: [1, 2, 13, 15]}
+    yield walk_line(31, 4, fifteen, 14, [0, 14, NONE_YET, 21])
+    for budget, row in changes.items():
+        yield walk_line(31, 4, fifteen, budget, [0, budget, 24, 21], row)
+    yield walk_line(31, 4, fifteen, 131, [0, 131, 24, 21], changes[15])
+    yield walk_line(31, 4, fifteen, 32760, [1, 32760, 24, 21], changes[132])
+    # 1 8 16 24 counts 32, and 1 8 49 57, the ninth row, counts 30 and is deeper.
+    six = [1, 8, 16, 24, 49, 57]
+    yield walk_line(67, 4, six, 1, [0, 1, 32, 28], six[:4])
+    yield walk_line(67, 4, six, 8, [0, 8, 32, 28], six[:4])
+    yield walk_line(67, 4, six, 9, [0, 9, 30, 28], [1, 8, 49, 57])
+    yield walk_line(67, 4, six, 360, [1, 360, 30, 28], [1, 8, 49, 57])
+
+
+def walk_lines_of_order_eight():
+    """The row 2 3 4 12 5 10 8 15 is the 75th of the 40320 over its entries."""
+    row = [2, 3, 4, 12, 5, 10, 8, 15]
+    yield walk_line(19, 8, row, 74, [0, 74, NONE_YET, 64])
+    yield walk_line(19, 8, row, 75, [0, 75, 64, 64], row)
+    yield walk_line(19, 8, row, 40319, [0, 40319, 64, 64], row)
+    yield walk_line(19, 8, row, 40320, [1, 40320, 64, 64], row)
+    yield walk_line(19, 8, row, 999999, [1, 40320, 64, 64], row)
+    eight = list(range(1, 9))  # they do not sum to 1
+    yield walk_line(19, 8, eight, 40319, [0, 40319, NONE_YET, 59])
+    yield "walk of order 8 without a row", walk_text(19, 8, eight, 40320), line([9])
+
+
 def limit_lines():
     """Limits of polynomial, order and count."""
     for polynomial, number in [(3, 3), (7, 9), (21, 4), (511, 4), (512, 3)]:
@@ -220,12 +300,20 @@ def limit_lines():
     for order in range(2, 9):
         yield f"circulant, order {order}, no candidate", request(CIRCULANT, 283, order, []), line([6])
         yield f"circulant, order {order}, 9 candidates", request(CIRCULANT, 283, order, values[:9]), line([6])
+    for polynomial, number in [(3, 3), (7, 9), (21, 4), (511, 4), (512, 3)]:
+        yield f"walk, polynomial {polynomial}", walk_text(polynomial, 4, [1], 0), line([number])
+    yield walk_line(283, 8, values[:16], 0, [0, 0, NONE_YET, 124])
+    yield "walk of order 8, 17 candidates", walk_text(283, 8, values[:17], 0), line([6])
+    yield walk_line(283, 4, values[:255], 0, [0, 0, NONE_YET, 36])
+    yield "walk of order 4, 256 values", walk_text(283, 4, values, 0), line([6])
+    for order in (0, 1, 2, 3, 5, 6, 7, 9, 16, 999999):
+        yield f"walk of order {order}", walk_text(283, order, values[:8], 1), line([5])
 
 
 def reference_lines():
     """(name, request text, answer text)"""
     parts = (search_lines, depth_lines, check_lines, zero_lines, survey_lines, field_lines, gate_lines, product_lines, limit_lines)
-    for part in (*parts, circulant_lines, circulant_depth_lines):
+    for part in (*parts, circulant_lines, circulant_depth_lines, walk_lines):
         yield from part()
 
 
@@ -271,6 +359,7 @@ def refusal_lines():
     yield "no row at order 8", r(SEARCH, 19, 8, [1, 2, 3, 4, 5, 6, 7]), 9
     yield from gate_refusals()
     yield from circulant_refusals()
+    yield from walk_refusals()
 
 
 def gate_refusals():
@@ -303,7 +392,7 @@ def circulant_refusals():
     yield "circulant without a line end", CIRCULANT_REQUEST[:-1], 1
     yield "circulant with a candidate missing", r(CIRCULANT, 283, 4, [1, 2], count=3), 1
     yield "1 before 3 to 8 in circulant", r(CIRCULANT, 3, 9, [0, 0, 999999], count=2), 1
-    yield "kind 6", r(6, 283, 4, [1, 2, 3]), 2
+    yield "kind 6 with four numbers in line one", r(6, 283, 4, [1, 2, 3]), 1
     yield "circulant over 3", r(CIRCULANT, 3, 2, [1]), 3
     yield "circulant over 512", r(CIRCULANT, 512, 2, [1]), 3
     yield "3 before 5 to 8 in circulant", r(CIRCULANT, 3, 9, [0, 0, 999999]), 3
@@ -324,3 +413,47 @@ def circulant_refusals():
     yield "a candidate repeated in circulant", r(CIRCULANT, 19, 4, [1, 2, 3, 4, 5, 6, 7, 1]), 8
     yield "8 before 9 in circulant", r(CIRCULANT, 19, 8, [1, 1]), 8
     yield "no circulant row", r(CIRCULANT, 19, 4, [1]), 9
+
+
+def walk_refusals():
+    """Kind 6: each number alone, the first fault of several, and where a number begins and ends."""
+    w = walk_text
+    yield "walk without a line end", WALK_REQUEST[:-1], 1
+    yield "walk without a budget", request(WALK, 19, 4, [1, 4, 9, 13]), 1
+    yield "walk with two budgets", WALK_REQUEST.replace(b"\n", b"     1\n", 1), 1
+    yield "walk with a budget in a line of its own", WALK_REQUEST.replace(b"     1\n", b"\n     1\n", 1), 1
+    yield "walk with a leading zero in its budget", WALK_REQUEST.replace(b"     1\n", b"    01\n", 1), 1
+    yield "walk with a budget of seven digits", WALK_REQUEST.replace(b"     1\n", b"1000000\n", 1), 1
+    yield "walk with a negative budget", WALK_REQUEST.replace(b"     1\n", b"    -1\n", 1), 1
+    yield "walk with an empty budget", WALK_REQUEST.replace(b"     1\n", b"      \n", 1), 1
+    yield "walk with a candidate missing", request(WALK, 19, 4, [1, 4, 9], count=4, budget=1), 1
+    yield "walk with a candidate too many", request(WALK, 19, 4, [1, 4, 9, 13], count=3, budget=1), 1
+    yield "1 before 3 to 8 in a walk", request(WALK, 3, 9, [0, 0, 999999], count=2, budget=1), 1
+    yield "walk over 671 values, which are too long", w(19, 4, [1] * 671, 1), 1
+    for kind in (0, SEARCH, CHECK, SURVEY, GATES, CIRCULANT, 7, 8, 9, 16, 60, 66, 600000, 999999):
+        yield f"five numbers in line one of kind {kind}", request(kind, 19, 4, [1, 4, 9, 13], budget=1), 1
+        yield f"five numbers in line one of kind {kind} and no value", request(kind, 4, 0, [], budget=0), 1
+    yield "walk over 3", w(3, 4, [1], 0), 3
+    yield "walk over 512", w(512, 4, [1], 0), 3
+    yield "3 before 5 to 8 in a walk", w(3, 5, [0, 0, 999999], 0), 3
+    yield "walk over 4", w(4, 4, [1], 0), 4
+    yield "walk over 21", w(21, 4, [1], 0), 4
+    yield "walk over 511", w(511, 4, [1], 0), 4
+    yield "4 before 5 to 8 in a walk", w(21, 5, [0, 0, 999999], 0), 4
+    yield "order 2 in a walk", w(19, 2, [1, 2], 0), 5
+    yield "order 9 in a walk", w(19, 9, [1], 0), 5
+    yield "5 before 6 to 8 in a walk", w(19, 5, [0, 0] + [16] * 300, 0), 5
+    yield "no candidate in a walk", w(19, 4, [], 0), 6
+    yield "no candidate in a walk of order 8", w(19, 8, [], 999999), 6
+    yield "17 candidates in a walk of order 8", w(283, 8, list(range(1, 18)), 1), 6
+    yield "256 candidates in a walk of order 4", w(283, 4, list(range(256)), 1), 6
+    yield "670 values in a walk", w(19, 4, [1] * 670, 1), 6
+    yield "6 before 7 and 8 in a walk", w(19, 8, [16, 0, 0] * 6, 0), 6
+    yield "candidate 16 over 19 in a walk", w(19, 4, [1, 16], 0), 7
+    yield "the last candidate 256 over 283 in a walk", w(283, 8, [1, 2, 3, 4, 5, 6, 7, 256], 0), 7
+    yield "7 before 8 in a walk", w(19, 4, [0, 0, 16], 0), 7
+    yield "candidate 0 in a walk", w(19, 4, [1, 0], 0), 8
+    yield "a candidate repeated in a walk", w(19, 4, [1, 4, 9, 13, 4], 1), 8
+    yield "8 before 9 in a walk", w(19, 4, [1, 1], 0), 8
+    yield "no row in a walk", w(19, 4, [1, 2, 4, 8], 24), 9
+    yield "one candidate in a walk", w(19, 4, [1], 0), 9

@@ -15,7 +15,10 @@ SECOND = os.path.join(ROOT, "target", "second", "release", "second")
 sys.path.insert(0, os.path.join(ROOT, "bindings", "python"))
 sys.dont_write_bytecode = True
 
-from rowfind import ALWAYS_ZERO, CHECK, CIRCULANT, GATES, MEANINGS, MOST_VALUES, SEARCH, SURVEY, line, numbers, request
+from rowfind import (
+    ALWAYS_ZERO, CHECK, CIRCULANT, GATES, LARGEST, MEANINGS, MOST_VALUES, MOST_VALUES_OF_A_WALK, NONE_YET, SEARCH, SURVEY, WALK, line,
+    numbers, request,
+)
 
 
 def give_up(words):
@@ -50,6 +53,17 @@ def ready_rowfind():
     if done.returncode:
         give_up(f"{path} ended with status {done.returncode}, so nothing can be asked of it")
     return COMPILED if path == SCRIPT else path
+
+
+def ready_calls():
+    """What the environment variable CALLS names, or the program `calls` from the sources that are there."""
+    if os.environ.get("CALLS"):
+        return os.path.abspath(os.environ["CALLS"])
+    needed("rt", "proves and builds the program calls", "the Rattle kit")
+    done = subprocess.run(["rt", "check", "calls"], cwd=ROOT, stdout=subprocess.PIPE, stderr=subprocess.STDOUT, check=False)
+    if done.returncode:
+        give_up("the program calls could not be built from the sources that are here: `rt check calls` says why")
+    return os.path.join(ROOT, "target", "bin", "calls")
 
 
 def is_second(path):

@@ -14,7 +14,7 @@ enum { CALL_STACK = 78 * 1024 }; /* what the header says of a call alone */
 
 typedef struct {
     const char *name;
-    unsigned numbers[68]; /* kind, polynomial, order, count, values */
+    unsigned numbers[68]; /* kind, polynomial, order, count, of a walk its budget, values */
     const char *answer;   /* whole, or its beginning */
     uint32_t number;
     size_t length; /* of an answer of which only the beginning stands here */
@@ -40,6 +40,13 @@ static const request_t REQUESTS[] = {
     {"a circulant row of order 8",
      {5, 283, 8, 8, 1, 2, 3, 4, 5, 6, 7, 8},
      "     0    53   109   872\n     1     1     3     1     8     4     5     6\n", 0, 0},
+    {"a walk", {6, 19, 4, 4, 1, 1, 4, 9, 13}, "     0     0     1    18    18\n     1     4     9    13\n", 0, 0},
+    {"a walk without a row yet", {6, 19, 4, 4, 23, 1, 2, 4, 8}, "     0     0    23999999    18\n     0     0     0     0\n", 0, 0},
+    {"a walk without a row", {6, 19, 4, 4, 24, 1, 2, 4, 8}, "     9\n", 9, 0},
+    /* Many rows to judge, and the largest budget. */
+    {"a walk of order 8",
+     {6, 415, 8, 16, 999999, 22, 23, 52, 53, 74, 75, 104, 105, 146, 147, 176, 177, 206, 207, 236, 237},
+     "     0     0999999   252   211\n    22    23    74   177   105   236   147   237\n", 0, 0},
     {"no kind", {9, 19, 4, 0}, "     2\n", 2, 0},
 };
 enum { MANY = sizeof REQUESTS / sizeof *REQUESTS };
@@ -54,8 +61,9 @@ static void report(int good, const char *test, const char *name) {
 
 static size_t request_text(const request_t *r, uint8_t *text) {
     char *at = (char *)text;
-    for (unsigned k = 0; k < 4 + r->numbers[3]; k++) {
-        at += sprintf(at, k >= 4 && k % 16 == 4 ? "\n%6u" : "%6u", r->numbers[k]);
+    unsigned head = r->numbers[0] == 6 ? 5 : 4; /* numbers in line one */
+    for (unsigned k = 0; k < head + r->numbers[3]; k++) {
+        at += sprintf(at, k >= head && (k - head) % 16 == 0 ? "\n%6u" : "%6u", r->numbers[k]);
     }
     *at++ = '\n';
     return (size_t)(at - (char *)text);
@@ -84,9 +92,9 @@ static int answered(const request_t *r) {
     return c.good;
 }
 
-/* Searches of order 8, of either shape, take too long to be asked again and again. */
+/* Searches of order 8, of either shape, and walks take too long to be asked again and again. */
 static int is_long(const request_t *r) {
-    return (r->numbers[0] == 1 || r->numbers[0] == 5) && r->numbers[2] == 8;
+    return (r->numbers[0] == 1 || r->numbers[0] == 5 || r->numbers[0] == 6) && r->numbers[2] == 8;
 }
 
 static void *answered_again_and_again(void *unused) {

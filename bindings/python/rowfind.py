@@ -1,4 +1,4 @@
-"""The proved row finder for Python: searches of Hadamard and of circulant rows, checks, surveys and gate lists, in Python numbers.
+"""The proved row finder for Python: searches of Hadamard and of circulant rows, walks, checks, surveys and gate lists, in Python numbers.
 
     >>> import rowfind
     >>> rowfind.search(19, 4, [1, 4, 9, 13])
@@ -11,6 +11,8 @@
     Netlist(gates=[(1, 2), (4, 3), (0, 1), (6, 2)], carriers=[5, 7, 2, 3])
     >>> rowfind.circulant(283, 4, [1, 2, 3])
     Row(row=[1, 1, 2, 3], element_sum=14, row_count=38, matrix_count=152)
+    >>> rowfind.walk(19, 4, [1, 4, 9, 13], budget=1)
+    Walk(finished=False, tried=1, row_count=18, bound=18, row=[1, 4, 9, 13])
 
 A polynomial or an element is a number whose bit i is the coefficient of x^i; anything that Python takes for an index is a
 number, Sage's integers too. A request that is refused raises Refused, with the number and its meaning.
@@ -25,16 +27,18 @@ import operator
 import os
 from typing import NamedTuple
 
-SEARCH, CHECK, SURVEY, GATES, CIRCULANT = 1, 2, 3, 4, 5
+SEARCH, CHECK, SURVEY, GATES, CIRCULANT, WALK = 1, 2, 3, 4, 5, 6
 
 LARGEST = 999999  # number of six columns
 ALWAYS_ZERO = 999999  # in a gate list, for the carrier of an output bit that is always 0
+NONE_YET = 999999  # in a walk, for the count of the best row where there is none yet
 MOST_VALUES = 671  # of a request: more do not fit 4,096 bytes
+MOST_VALUES_OF_A_WALK = 670  # whose line one is longer
 LONGEST_ANSWER = 52877  # bytes: ROWFIND_LONGEST_ANSWER of include/rowfind.h
 
 MEANINGS = {
     1: "the text is not in form, is too long, or has not as many values as its count says",
-    2: "the kind is not 1, 2, 3, 4 or 5",
+    2: "the kind is not 1, 2, 3, 4, 5 or 6",
     3: "the polynomial is not from 4 to 511 (for a survey: the degree is not from 2 to 8)",
     4: "the polynomial is reducible",
     5: "the order is not allowed for the kind",
@@ -65,6 +69,16 @@ class Row(NamedTuple):
     element_sum: int  # of the XOR counts of the row's elements
     row_count: int
     matrix_count: int
+
+
+class Walk(NamedTuple):
+    """How far a walk came, and the best row of those that it tried."""
+
+    finished: bool  # every row of different candidates was tried
+    tried: int
+    row_count: int  # of the best row yet; None if there is none yet
+    bound: int  # no row of different candidates counts less
+    row: list  # the best row yet, or None
 
 
 class Check(NamedTuple):
@@ -106,6 +120,17 @@ def circulant(polynomial, order, candidates):
     return Row(row, *counts)
 
 
+def walk(polynomial, order, candidates, budget=LARGEST):
+    """The best row yet: of the rows of different candidates, of order 4 or 8, as many as the budget says are tried in dictionary order,
+    and the best of those that are MDS involutions is kept, by the rules of a search. A larger budget never gives a worse row, and
+    once it is finished its row is that of a search. Where it is finished without a row, Refused with number 9."""
+    text = request(WALK, polynomial, order, candidates, budget=budget)
+    (_, finished, tried, count, bound), row = numbers(answer(text))
+    if count == NONE_YET:
+        count = row = None
+    return Walk(finished == 1, tried, count, bound, row)
+
+
 def check(polynomial, matrix):
     """Branch number, MDS, involution and XOR count of a matrix, a list of its lines; the order is from 1 to 8."""
     ((_, branch, mds, involution, count),) = numbers(answer(of_matrix(CHECK, polynomial, matrix)))
@@ -131,10 +156,11 @@ def line(values):
     return b"".join(b"%6d" % value for value in values) + b"\n"
 
 
-def request(kind, polynomial, order, values, count=None):
-    """The text of a request, sixteen values to a line. The count may be made to lie."""
+def request(kind, polynomial, order, values, count=None, budget=None):
+    """The text of a request, sixteen values to a line; a walk has a budget. The count may be made to lie."""
     values = [number(value) for value in values]
     head = [number(kind), number(polynomial), number(order), len(values) if count is None else number(count)]
+    head += [] if budget is None else [number(budget)]
     return line(head) + b"".join(line(values[k : k + 16]) for k in range(0, len(values), 16))
 
 

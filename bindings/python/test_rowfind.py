@@ -81,6 +81,26 @@ class Functions(unittest.TestCase):
         # 2 3 is as light and earlier, and deeper.
         self.assertEqual(rowfind.circulant(19, 2, [2, 3, 6]), rowfind.Row([2, 6], 6, 10, 20))
 
+    def test_walk(self):
+        found = rowfind.walk(19, 4, iter([13, 9, 4, 1]), 1)
+        self.assertEqual(found, rowfind.Walk(False, 1, 18, 18, [1, 4, 9, 13]))
+        self.assertEqual(rowfind.walk(Index(19), Index(4), map(Index, [1, 4, 9, 13]), budget=Index(1)), found)
+        self.assertEqual(rowfind.walk(19, 4, [1, 2, 4, 8], 23), rowfind.Walk(False, 23, None, 18, None))
+        # Without a budget, the largest.
+        self.assertEqual(rowfind.walk(19, 4, range(1, 16)), rowfind.Walk(True, 32760, 18, 16, [1, 4, 9, 13]))
+        self.assertEqual(rowfind.walk(19, 8, range(1, 16)).tried, 999999)
+
+    def test_a_larger_budget_never_gives_a_worse_row(self):
+        found = [rowfind.walk(31, 4, [15, 13, 6, 4, 2, 1], budget) for budget in range(361)]
+        self.assertEqual([walk.tried for walk in found], list(range(361)))
+        self.assertEqual([walk.finished for walk in found], [False] * 360 + [True])
+        counts = [walk.row_count for walk in found[1:]]
+        self.assertEqual(counts, sorted(counts, reverse=True))
+        # 1 2 13 15 is as light as 1 2 4 6, later, and shallower.
+        self.assertEqual([walk.row for walk in found[8:10]], [[1, 2, 4, 6], [1, 2, 13, 15]])
+        search = rowfind.search(31, 4, [15, 13, 6, 4, 2, 1])
+        self.assertEqual((found[360].row, found[360].row_count), (search.row, search.row_count))
+
     def test_circulant_rows_are_mds(self):
         for n in range(2, 8):
             found = rowfind.circulant(283, n, [1, 2, 3, 4, 6])
@@ -162,7 +182,18 @@ class Refusals(unittest.TestCase):
             8: lambda: rowfind.circulant(19, 2, [1, 1]),
             9: lambda: rowfind.circulant(19, 2, [1]),
         }
-        for number, call in (*refused.items(), *of_gates.items(), *of_circulant.items()):
+        of_walk = {
+            1: lambda: rowfind.walk(19, 4, [1] * 671),
+            3: lambda: rowfind.walk(3, 4, [1], 0),
+            4: lambda: rowfind.walk(21, 4, [1], 0),
+            5: lambda: rowfind.walk(19, 5, [1], 0),
+            6: lambda: rowfind.walk(283, 8, range(1, 18), 0),
+            7: lambda: rowfind.walk(19, 4, [16], 0),
+            8: lambda: rowfind.walk(19, 4, [1, 1], 0),
+            9: lambda: rowfind.walk(19, 4, [1, 4, 9], 0),
+        }
+        of_kinds = (refused, of_gates, of_circulant, of_walk)
+        for number, call in (pair for calls in of_kinds for pair in calls.items()):
             with self.assertRaises(rowfind.Refused) as caught:
                 call()
             self.assertEqual(caught.exception.number, number)
@@ -171,6 +202,8 @@ class Refusals(unittest.TestCase):
         for value in (-1, 1000000, 10**5000):
             with self.assertRaises(ValueError):
                 rowfind.survey(value)
+            with self.assertRaises(ValueError):
+                rowfind.walk(19, 4, [1], value)
         for value in (4.0, "4", None):
             with self.assertRaises(TypeError):
                 rowfind.search(19, value, [1])

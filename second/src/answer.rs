@@ -7,9 +7,16 @@ use crate::gates::Netlist;
 use crate::matrix::{line_count, line_depth, Matrix};
 use crate::search::{self, Found};
 use crate::text::{line_of, read_request, Request};
+use crate::walk::{self, Walked};
+
+/// In the place of the best row's count where there is no row yet.
+pub const NONE_YET: u32 = 999999;
 
 /// A refusal's number, 1 to 9.
 pub type Refusal = u32;
+
+/// A walk: over a field, of an order, with candidates and a budget.
+type Walker = fn(&Field, usize, &[u8], u64) -> Walked;
 
 /// Answers requests; the tables of a field are kept for the next request.
 #[derive(Default)]
@@ -32,16 +39,17 @@ impl Answerer {
         Ok(lightest_word(self.fields.of(request.polynomial), &matrix_of(&request)))
     }
 
-    /// Rows and their depths. For a check: its first line. For a search of either shape: the row that is found, and the one
-    /// that would be if depth did not count.
+    /// Rows and their depths. For a check: its first line. For a search of either shape and for a walk: the row that is found, and
+    /// the one that would be if depth did not count; zeros where a walk has none yet.
     pub fn depths(&mut self, text: &[u8]) -> Result<Vec<(u32, Vec<u8>)>, Refusal> {
         let request = judged(text)?;
-        if ![1, 2, 5].contains(&request.kind) {
+        if ![1, 2, 5, 6].contains(&request.kind) {
             return Err(2);
         }
         let field = self.fields.of(request.polynomial);
         let rows = match request.kind {
             2 => vec![elements(&request)[..request.order as usize].to_vec()],
+            6 => [walk::walk, walk::walk_of_any_depth].map(|walk| best_yet(walk, field, &request)).into(),
             _ => vec![lightest(field, &request)?.row, lightest_of_any_depth(field, &request)?.row],
         };
         Ok(rows.into_iter().map(|row| (line_depth(field, &row), row)).collect())
@@ -53,6 +61,7 @@ impl Answerer {
             1 | 5 => search_answer(self.fields.of(request.polynomial), &request),
             2 => Ok(check_answer(self.fields.of(request.polynomial), &request)),
             3 => Ok(survey_answer(request.polynomial)),
+            6 => walk_answer(self.fields.of(request.polynomial), &request),
             _ => Ok(Netlist::of(self.fields.of(request.polynomial), &matrix_of(&request)).text()),
         }
     }
@@ -62,7 +71,7 @@ impl Answerer {
 fn judged(text: &[u8]) -> Result<Request, Refusal> {
     let request = read_request(text).ok_or(1u32)?;
     let refused = match request.kind {
-        1 => search_refusal(&request),
+        1 | 6 => search_refusal(&request),
         2 | 4 => check_refusal(&request),
         3 => survey_refusal(&request),
         5 => circulant_refusal(&request),
@@ -147,11 +156,33 @@ fn lightest_of_any_depth(field: &Field, request: &Request) -> Result<Found, Refu
     find(field, request.order as usize, &elements(request)).ok_or(9)
 }
 
+/// The best row of a walk, or zeros.
+fn best_yet(walk: Walker, field: &Field, request: &Request) -> Vec<u8> {
+    let order = request.order as usize;
+    let best = walk(field, order, &elements(request), request.budget.into()).best;
+    best.map_or(vec![0; order], |found| found.row)
+}
+
 fn search_answer(field: &Field, request: &Request) -> Result<String, Refusal> {
     let found = lightest(field, request)?;
     let row_count = line_count(field, &found.row);
     let row: Vec<u32> = found.row.iter().map(|&h| h as u32).collect();
     Ok(line_of(&[0, found.sum, row_count, request.order * row_count]) + &line_of(&row))
+}
+
+/// How far the walk came, its best row's count and the bound; then the row, or zeros.
+fn walk_answer(field: &Field, request: &Request) -> Result<String, Refusal> {
+    let (order, candidates) = (request.order as usize, elements(request));
+    let walked = walk::walk(field, order, &candidates, request.budget.into());
+    let (count, row) = match walked.best {
+        Some(found) => (line_count(field, &found.row), found.row),
+        None if walked.finished => return Err(9),
+        None => (NONE_YET, vec![0; order]),
+    };
+    let row: Vec<u32> = row.into_iter().map(u32::from).collect();
+    let head =
+        [0, walked.finished as u32, walked.tried as u32, count, walk::bound(field, order, &candidates)];
+    Ok(line_of(&head) + &line_of(&row))
 }
 
 fn matrix_of(request: &Request) -> Matrix {
@@ -183,13 +214,21 @@ fn survey_line(polynomial: u32) -> String {
 mod tests {
     use super::*;
 
-    fn text_of(head: [u32; 4], values: &[u32]) -> String {
-        values.chunks(16).fold(line_of(&head), |text, line| text + &line_of(line))
+    fn text_of(head: &[u32], values: &[u32]) -> String {
+        values.chunks(16).fold(line_of(head), |text, line| text + &line_of(line))
     }
 
     /// The answer's numbers to a request whose count is right.
     fn ask(kind: u32, polynomial: u32, order: u32, values: &[u32]) -> Vec<u32> {
-        let text = text_of([kind, polynomial, order, values.len() as u32], values);
+        numbers_of(&text_of(&[kind, polynomial, order, values.len() as u32], values))
+    }
+
+    /// The same for a walk.
+    fn walked(polynomial: u32, order: u32, values: &[u32], budget: u32) -> Vec<u32> {
+        numbers_of(&text_of(&[6, polynomial, order, values.len() as u32, budget], values))
+    }
+
+    fn numbers_of(text: &str) -> Vec<u32> {
         let answer = Answerer::default().answer(text.as_bytes());
         let numbers = answer.lines().flat_map(|line| line.as_bytes().chunks(6));
         numbers.map(|columns| std::str::from_utf8(columns).unwrap().trim().parse().unwrap()).collect()
@@ -251,9 +290,27 @@ mod tests {
     }
 
     #[test]
+    fn reference_walks() {
+        let row = [1, 4, 9, 13];
+        assert_eq!(walked(19, 4, &row, 0), [0, 0, 0, 999999, 18, 0, 0, 0, 0]);
+        assert_eq!(walked(19, 4, &row, 1), [0, 0, 1, 18, 18, 1, 4, 9, 13]);
+        assert_eq!(walked(19, 4, &row, 23), [0, 0, 23, 18, 18, 1, 4, 9, 13]);
+        assert_eq!(walked(19, 4, &row, 24), [0, 1, 24, 18, 18, 1, 4, 9, 13]);
+        assert_eq!(walked(19, 4, &row, 999999), [0, 1, 24, 18, 18, 1, 4, 9, 13]);
+        assert_eq!(walked(19, 4, &[1, 2, 4, 8], 23), [0, 0, 23, 999999, 18, 0, 0, 0, 0]);
+        assert_eq!(walked(19, 4, &[1, 2, 4, 8], 24), [9]);
+        assert_eq!([0, 1, 999999].map(|budget| walked(19, 4, &[1, 4, 9], budget)), [[9], [9], [9]]);
+        assert_eq!([0, 999999].map(|budget| walked(19, 8, &[1, 2, 3, 4, 5, 6, 7], budget)), [[9], [9]]);
+        let fifteen: Vec<u32> = (1..16).collect();
+        assert_eq!(walked(19, 4, &fifteen, 999999), [0, 1, 32760, 18, 16, 1, 4, 9, 13]);
+        let empty = [0, 0, 0, 999999, 48, 0, 0, 0, 0, 0, 0, 0, 0];
+        assert_eq!(walked(19, 8, &fifteen, 0), empty);
+    }
+
+    #[test]
     fn depths_of_a_check_and_of_a_search() {
         let depths = |kind, polynomial, order, values: &[u32]| {
-            let text = text_of([kind, polynomial, order, values.len() as u32], values);
+            let text = text_of(&[kind, polynomial, order, values.len() as u32], values);
             Answerer::default().depths(text.as_bytes())
         };
         assert_eq!(depths(2, 31, 4, &hadamard(&[1, 2, 4, 6])), Ok(vec![(4, vec![1, 2, 4, 6])]));
@@ -264,6 +321,13 @@ mod tests {
         assert_eq!(depths(1, 19, 4, &[1, 2, 4, 8]), Err(9));
         assert_eq!(depths(5, 19, 2, &[2, 3, 6]), Ok(vec![(2, vec![2, 6]), (3, vec![2, 3])]));
         assert_eq!(depths(5, 19, 2, &[2]), Err(9));
+        let walk = |budget| {
+            let text = text_of(&[6, 31, 4, 15, budget], &fifteen);
+            Answerer::default().depths(text.as_bytes())
+        };
+        assert_eq!(walk(131), Ok(vec![(4, vec![1, 2, 4, 6]); 2]));
+        assert_eq!(walk(132), Ok(vec![(3, vec![1, 2, 13, 15]), (4, vec![1, 2, 4, 6])]));
+        assert_eq!(walk(14), Ok(vec![(0, vec![0; 4]); 2]));
         assert_eq!(
             [depths(3, 4, 0, &[]), depths(4, 7, 1, &[3]), depths(2, 21, 1, &[1])],
             [Err(2), Err(2), Err(4)]
@@ -335,7 +399,8 @@ mod tests {
         assert_eq!(answer(""), "     1\n");
         assert_eq!(answer("     9     3     9     1\n"), "     1\n");
         assert_eq!(ask(9, 3, 9, &[0, 0]), [2]);
-        assert_eq!(ask(6, 19, 4, &[1]), [2]);
+        assert_eq!(ask(8, 19, 4, &[1]), [2]);
+        assert_eq!(ask(6, 19, 4, &[1]), [1]);
         assert_eq!(ask(0, 21, 9, &[300]), [2]);
         assert_eq!(ask(1, 512, 5, &[]), [3]);
         assert_eq!(ask(1, 21, 5, &[]), [4]);
@@ -361,6 +426,14 @@ mod tests {
         assert_eq!(ask(5, 19, 4, &[0, 0, 16]), [7]);
         assert_eq!(ask(5, 19, 4, &[2, 4, 2]), [8]);
         assert_eq!(ask(5, 19, 4, &[2, 0]), [8]);
+        assert_eq!(walked(512, 5, &[], 0), [3]);
+        assert_eq!(walked(21, 5, &[], 999999), [4]);
+        assert_eq!([0, 2, 5, 9].map(|n| walked(19, n, &[16; 9], 0)), [[5], [5], [5], [5]]);
+        assert_eq!(walked(19, 8, &[16; 17], 24), [6]);
+        assert_eq!(walked(19, 4, &[], 0), [6]);
+        assert_eq!(walked(19, 4, &[0, 0, 16], 0), [7]);
+        assert_eq!(walked(19, 4, &[2, 4, 2], 0), [8]);
+        assert_eq!(walked(19, 4, &[2, 0], 0), [8]);
         assert_eq!(ask(3, 9, 1, &[1]), [3]);
         assert_eq!(ask(3, 1, 0, &[]), [3]);
         assert_eq!(ask(3, 4, 1, &[1]), [5]);

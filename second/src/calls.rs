@@ -5,17 +5,19 @@
 //! | --- | --- |
 //! | 0 to 15 | four numbers: call, polynomial, order or first value, count or second value |
 //! | 16 to 79 | the matrix, eight lines of eight; or the row; or the candidates |
-//! | 80 to 87 | the input; or the row whose count is asked for |
+//! | 80 to 87 | the input; or the row whose count is asked for; or the budget of a walk, a number of eight bytes |
 //!
 //! An answer holds 13 numbers: that of the refusal or 0, four values, and eight words; what a call does not yield is
-//! 0, and beside a refusal all is 0. Candidates beyond the 64 that a record holds are 0.
+//! 0, and beside a refusal all is 0. Candidates beyond the 64 that a record holds are 0. A walk yields finished, the rows
+//! tried (which are below 2^32, as many as there may be candidates), the best row's count or 999999, the bound, and the row.
 
-use crate::answer::{first_fault, zero_or_repeated, Refusal};
+use crate::answer::{first_fault, zero_or_repeated, Refusal, NONE_YET};
 use crate::circulant;
 use crate::distance::branch_number;
 use crate::field::{degree, irreducible, Field, Fields};
 use crate::matrix::{line_count, Matrix, MOST};
 use crate::search::{self, Found};
+use crate::walk;
 
 pub const RECORD: usize = 88;
 
@@ -35,6 +37,7 @@ pub const HALVED: u32 = 12;
 pub const CHECK: u32 = 13;
 pub const SEARCH: u32 = 14;
 pub const CIRCULANT: u32 = 15;
+pub const WALK: u32 = 16;
 
 /// A search: over a field, of an order, with candidates.
 type Finder = fn(&Field, usize, &[u8]) -> Option<Found>;
@@ -80,7 +83,7 @@ impl Call {
 
     /// The lowest number that applies, or what the call yields. An unknown call yields nothing.
     pub fn answer(&self, fields: &mut Fields) -> Result<Yield, Refusal> {
-        if !(DEGREE..=CIRCULANT).contains(&self.call) {
+        if !(DEGREE..=WALK).contains(&self.call) {
             return Ok(Yield::default());
         }
         match self.refusal() {
@@ -98,7 +101,7 @@ impl Call {
             (7, &|| self.values().iter().any(|&v| v >= 1 << degree(self.polynomial))),
             (8, &|| match self.call {
                 INVERSE => self.first == 0,
-                SEARCH | CIRCULANT => zero_or_repeated(&self.values()),
+                SEARCH | CIRCULANT | WALK => zero_or_repeated(&self.values()),
                 _ => false,
             }),
         ])
@@ -109,7 +112,7 @@ impl Call {
         match self.call {
             DETERMINANT => Some(&[0, 1, 2, 3, 4, 5, 6, 7, 8]),
             HALVED => Some(&[2, 4, 8]),
-            SEARCH => Some(&[4, 8]),
+            SEARCH | WALK => Some(&[4, 8]),
             CIRCULANT => Some(&[2, 3, 4, 5, 6, 7, 8]),
             BRANCH_NUMBER..=CHECK => Some(&[1, 2, 3, 4, 5, 6, 7, 8]),
             _ => None,
@@ -119,8 +122,8 @@ impl Call {
     /// How many candidates a call takes at most, if it takes some: 255 for order 4, 16 for order 8, 8 for a circulant matrix.
     fn most_candidates(&self) -> Option<u32> {
         match (self.call, self.first) {
-            (SEARCH, 4) => Some(255),
-            (SEARCH, _) => Some(16),
+            (SEARCH | WALK, 4) => Some(255),
+            (SEARCH | WALK, _) => Some(16),
             (CIRCULANT, _) => Some(8),
             _ => None,
         }
@@ -142,7 +145,9 @@ impl Call {
             ROW_COUNT => wide(&self.words[..self.n()]),
             PLAIN => block().chain(wide(&self.words[..self.n()])).collect(),
             HALVED => [wide(&self.entries[..self.n()]), wide(&self.words[..self.n()])].concat(),
-            SEARCH | CIRCULANT => (0..self.second as usize).map(|k| *self.entries.get(k).unwrap_or(&0) as u32).collect(),
+            SEARCH | CIRCULANT | WALK => {
+                (0..self.second as usize).map(|k| *self.entries.get(k).unwrap_or(&0) as u32).collect()
+            }
             _ => Vec::new(),
         }
     }
@@ -173,6 +178,7 @@ impl Call {
             HALVED => words(Matrix::hadamard(&self.entries[..self.n()]).apply(field, &self.input())),
             CHECK => self.check(field),
             CIRCULANT => self.search(field, circulant::lightest_row)?,
+            WALK => self.walk(field)?,
             _ => self.search(field, search::lightest_row)?,
         })
     }
@@ -187,11 +193,31 @@ impl Call {
 
     /// The sum of the row's element counts, and the row.
     fn search(&self, field: &Field, lightest_row: Finder) -> Result<Yield, Refusal> {
-        let candidates: Vec<u8> = self.values().iter().map(|&v| v as u8).collect();
-        let found = lightest_row(field, self.n(), &candidates).ok_or(9u32)?;
-        let words = std::array::from_fn(|j| *found.row.get(j).unwrap_or(&0));
-        Ok(Yield { values: [found.sum, 0, 0, 0], words })
+        let found = lightest_row(field, self.n(), &self.candidates()).ok_or(9u32)?;
+        Ok(Yield { values: [found.sum, 0, 0, 0], words: eight(&found.row) })
     }
+
+    fn walk(&self, field: &Field) -> Result<Yield, Refusal> {
+        let budget = u64::from_le_bytes(self.words);
+        let walked = walk::walk(field, self.n(), &self.candidates(), budget);
+        let bound = walk::bound(field, self.n(), &self.candidates());
+        let (count, words) = match walked.best {
+            Some(found) => (line_count(field, &found.row), eight(&found.row)),
+            None if walked.finished => return Err(9),
+            None => (NONE_YET, [0; MOST]),
+        };
+        let tried = u32::try_from(walked.tried).unwrap();
+        Ok(Yield { values: [walked.finished as u32, tried, count, bound], words })
+    }
+
+    fn candidates(&self) -> Vec<u8> {
+        self.values().iter().map(|&v| v as u8).collect()
+    }
+}
+
+/// A row, and zeros behind it.
+fn eight(row: &[u8]) -> [u8; MOST] {
+    std::array::from_fn(|j| *row.get(j).unwrap_or(&0))
 }
 
 /// The answer's record.
@@ -321,7 +347,32 @@ mod tests {
         assert_eq!(answer(on_row(CIRCULANT, 283, 4, &[1, 2, 3], &[])), Ok(found));
         let refused = |n, row: &[u8]| answer(on_row(CIRCULANT, 7, n, row, &[])).unwrap_err();
         assert_eq!([refused(2, &[1]), refused(1, &[1]), refused(9, &[1]), refused(2, &[])], [9, 5, 5, 6]);
-        assert_eq!([refused(2, &[4; 9]), refused(2, &[4]), refused(2, &[0]), refused(2, &[2, 2])], [6, 7, 8, 8]);
+        assert_eq!(
+            [refused(2, &[4; 9]), refused(2, &[4]), refused(2, &[0]), refused(2, &[2, 2])],
+            [6, 7, 8, 8]
+        );
+    }
+
+    #[test]
+    fn walks() {
+        let walk = |row: &[u8], budget: u64| answer(on_row(WALK, 19, 4, row, &budget.to_le_bytes()));
+        let found = |finished, tried| {
+            Ok(Yield { values: [finished, tried, 18, 18], words: [1, 4, 9, 13, 0, 0, 0, 0] })
+        };
+        assert_eq!(walk(&[1, 4, 9, 13], 1), found(0, 1));
+        for budget in [24, 25, 1 << 32, u64::MAX] {
+            assert_eq!(walk(&[1, 4, 9, 13], budget), found(1, 24));
+        }
+        let none = Yield { values: [0, 23, 999999, 18], words: [0; 8] };
+        assert_eq!(walk(&[1, 2, 4, 8], 23), Ok(none));
+        assert_eq!([walk(&[1, 2, 4, 8], 24), walk(&[1, 4, 9], 0)], [Err(9), Err(9)]);
+        // The eight bytes are one number: 2^32 rows are more than there are.
+        let fifteen: Vec<u8> = (1..16).collect();
+        assert_eq!([1 << 32, 1 << 56].map(|b| walk(&fifteen, b).unwrap().values), [[1, 32760, 18, 16]; 2]);
+        assert_eq!(walk(&fifteen, 256).unwrap().values[..2], [0, 256]);
+        let refused = |n, row: &[u8]| answer(on_row(WALK, 19, n, row, &[])).unwrap_err();
+        assert_eq!([refused(2, &[]), refused(4, &[]), refused(8, &[16; 17])], [5, 6, 6]);
+        assert_eq!([refused(8, &[16, 0, 0]), refused(4, &[4, 4]), refused(4, &[4, 0])], [7, 8, 8]);
     }
 
     #[test]

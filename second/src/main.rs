@@ -5,8 +5,8 @@
 //!   and writes each answer in the same form, until its input ends.
 //! - `second calls` reads records of single calls and writes the record of each answer, until its input ends.
 //! - `second light` reads a check and writes an input of least weight and its output, if it is not MDS.
-//! - `second depth` reads a check and writes the depth of its first line; or a search, of either shape, and writes the
-//!   depth of the row that is found and of the one that would be found if depth did not count.
+//! - `second depth` reads a check and writes the depth of its first line; or a search, of either shape, or a walk, and
+//!   writes the depth of the row that is found and of the one that would be found if depth did not count.
 
 mod answer;
 #[cfg(test)]
@@ -19,6 +19,7 @@ mod gates;
 mod matrix;
 mod search;
 mod text;
+mod walk;
 
 use answer::Answerer;
 use calls::Call;

@@ -165,7 +165,7 @@ impl<'a> Search<'a> {
 }
 
 /// The 14 index planes of order 8, by their largest index.
-const PLANES: [[usize; 4]; 14] = [
+pub const PLANES: [[usize; 4]; 14] = [
     [0, 1, 2, 3],
     [0, 1, 4, 5],
     [2, 3, 4, 5],
@@ -183,7 +183,7 @@ const PLANES: [[usize; 4]; 14] = [
 ];
 
 /// How many of the planes, from the first on, end at this index.
-fn planes_ending(planes: &[[usize; 4]], index: usize) -> usize {
+pub fn planes_ending(planes: &[[usize; 4]], index: usize) -> usize {
     planes.iter().take_while(|plane| plane[3] == index).count()
 }
 
@@ -220,7 +220,7 @@ fn least_sums(field: &Field, candidates: &[u8], order: usize) -> Vec<u32> {
     sums
 }
 
-fn good_fours(field: &Field, candidates: &[u8]) -> Vec<bool> {
+pub fn good_fours(field: &Field, candidates: &[u8]) -> Vec<bool> {
     let members = |set: usize| (0..candidates.len()).filter(move |k| set >> k & 1 == 1);
     let is_mds_four = |set: usize| {
         set.count_ones() == 4 && {

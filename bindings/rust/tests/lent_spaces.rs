@@ -93,6 +93,22 @@ fn accepted_circulants() {
     }
 }
 
+#[test]
+fn accepted_walks() {
+    let walks: [(Vec<u8>, Vec<u8>); 4] = [
+        (text(&[&[6, 19, 4, 4, 1], &[1, 4, 9, 13]]), text(&[&[0, 0, 1, 18, 18], &[1, 4, 9, 13]])),
+        (text(&[&[6, 19, 4, 4, 24], &[13, 9, 4, 1]]), text(&[&[0, 1, 24, 18, 18], &[1, 4, 9, 13]])),
+        (text(&[&[6, 19, 4, 4, 23], &[1, 2, 4, 8]]), text(&[&[0, 0, 23, 999999, 18], &[0; 4]])),
+        (
+            text(&[&[6, 19, 8, 8, 0], &[2, 3, 4, 12, 5, 10, 8, 15]]),
+            text(&[&[0, 0, 0, 999999, 64], &[0; 8]]),
+        ),
+    ];
+    for (request, expected) in walks {
+        check_spaces(&request, &expected, 0, expected.len() + 1);
+    }
+}
+
 /// The longest list there is: it fits just its length, and one byte less leaves every byte as it was.
 #[test]
 fn the_longest_gates() {
@@ -165,6 +181,26 @@ fn every_refusal_of_circulants() {
 }
 
 #[test]
+fn every_refusal_of_walks() {
+    let refused: [(u32, Vec<u8>); 11] = [
+        (1, text(&[&[6, 19, 4, 4], &[1, 4, 9, 13]])),
+        (1, text(&[&[1, 19, 4, 4, 24], &[1, 4, 9, 13]])),
+        (1, text(&[&[9, 19, 4, 0, 24]])),
+        (3, text(&[&[6, 3, 5, 0, 24]])),
+        (4, text(&[&[6, 21, 5, 0, 24]])),
+        (5, text(&[&[6, 19, 5, 0, 24]])),
+        (6, text(&[&[6, 19, 4, 0, 24]])),
+        (7, text(&[&[6, 19, 4, 2, 24], &[16, 0]])),
+        (8, text(&[&[6, 19, 4, 2, 24], &[7, 7]])),
+        (9, text(&[&[6, 19, 4, 4, 24], &[1, 2, 4, 8]])),
+        (9, text(&[&[6, 19, 4, 3, 0], &[1, 4, 9]])),
+    ];
+    for (number, request) in refused {
+        check_spaces(&request, &text(&[&[number]]), number, 9);
+    }
+}
+
+#[test]
 fn no_request_at_all() {
     check_spaces(b"", &text(&[&[1]]), 1, 9);
 }
@@ -178,6 +214,8 @@ fn in_a_thread_with_the_stated_stack() {
     answered_in_a_thread(request, text(&[&[0, 176, 232, 1856], &[52, 53, 75, 177, 105, 207, 206, 146]]));
     let request = text(&[&[5, 283, 8, 8], &[1, 2, 3, 4, 5, 6, 7, 8]]);
     answered_in_a_thread(request, text(&[&[0, 53, 109, 872], &[1, 1, 3, 1, 8, 4, 5, 6]]));
+    let request = text(&[&[6, 19, 8, 8, 40320], &[2, 3, 4, 12, 5, 10, 8, 15]]);
+    answered_in_a_thread(request, text(&[&[0, 1, 40320, 64, 64], &[2, 3, 4, 12, 5, 10, 8, 15]]));
 }
 
 /// Calls in a thread whose stack has just the bytes that are stated.

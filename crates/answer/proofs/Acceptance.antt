@@ -1,7 +1,7 @@
 -- What an accepted request has shown, for every kind: every number of its answer fits six columns (`six-columns`), and the answer has at
 -- most 52,877 bytes (`answer-short`), less than 64 KiB; so 10 is never returned where 52,877 are lent (`never-ten`). Assumes nothing.
 use mathlib.Core.Path.{_≡_, refl, _∙_}
-use mathlib.Core.Bool.{not, _||_}
+use mathlib.Core.Bool.{cond, not, _||_}
 use mathlib.Core.Logic.{⊎-elim}
 use mathlib.Core.List.{List, [], _∷_, _++_, map}
 use Prim.Native.Nat.{ℕ, zero, suc, _+_, _*_, _^_, _≤_, _<_, zero-le, suc-le-suc}
@@ -22,13 +22,20 @@ use Rattle.gates.specs.Gates.{Gate, gate, gatesOfMatrix, carriersOfMatrix}
 use Rattle.gates.specs.Netlist.{Netlist}
 use Rattle.gates.proofs.Netlists.{bits-few, gates-few, netlist}
 use Rattle.rows.specs.declared.Family.{Family}
+use Rattle.rows.specs.declared.Family.the-variants.{Hadamard}
+use Rattle.rows.specs.Walks.{walkOf, lowerBound}
 use Rattle.rows.specs.Keys.{sumOf}
 use Rattle.rows.specs.Demands.{countOfRow}
 use Rattle.rows.specs.Candidates.{someTooLarge}
+use Rattle.cuts.proofs.Families.{family-most}
 use Rattle.lightest.proofs.LetterCounts.{fits-at}
-use Rattle.text.specs.Text.{SixDigits, answerText}
+use Rattle.search.proofs.Refusals.{brief-passed, brief-parts}
+use Rattle.walk.specs.Answer.{walkFaults, bestCount, bestRow}
+use Rattle.text.specs.Text.{furtherNumbers, SixDigits, answerText}
+use Rattle.text.specs.Reading.{numbersFrom, kindOf, furtherOf, budgetOf}
+use Rattle.text.proofs.Numbers.{number-six}
 use Rattle.text.proofs.Form.{six-none, six-more}
-use Rattle.reply.specs.Due.{Request, Kind, rowLines, search, checkFaults, entriesOf, checkLines, check, surveyFaults, surveyLine, surveyLines, survey, gateLine, carrierLine, gateLines, gates, requestIn, faultsOf, due}
+use Rattle.reply.specs.Due.{Request, Kind, rowLines, search, checkFaults, entriesOf, checkLines, check, surveyFaults, surveyLine, surveyLines, survey, gateLine, carrierLine, gateLines, gates, walkLines, walk, requestIn, faultsOf, due}
 use Rattle.reply.specs.Answered.{Answered}
 use Rattle.answer.proofs.EveryKind.{unknown, kind-holds, faults-to-nine, due-number, due-lines-of, due-passed}
 use Rattle.answer.proofs.Demands.{FirstFault, at-fault, with-room, without-room, first-fault}
@@ -37,14 +44,16 @@ use Rattle.answer_matrix.proofs.GateLines.{gate-lines-short}
 use Rattle.answer_survey.proofs.Surveys.{survey-length, six-survey, starts-few, polynomials-few, polynomials-modulus}
 use Rattle.reply.proofs.Values.{place-below, degree-passed, six-check}
 use Rattle.answer_row.proofs.Found.{search-accepted, sum-le, six-row}
+use Rattle.answer_row.proofs.Walked.{row-told, six-walk}
 
 -- the lines of an accepted request fit their columns and the program's space
 pub record Fitting (l : List (List ℕ)) : Type 0 where
   pub six : (i : ℕ) → SixDigits (getD l i [])
   pub short : length (answerText l) ≤ 52877
 
+-- the budget, which is read from a text, has at most six digits
 abbrev FitsWhere : Kind → Type 0
-FitsWhere kind = (r : Request) → firstNumber (kind .faults r) ≡ 0 → Fitting (kind .lines r)
+FitsWhere kind = (r : Request) → r .budget ≤ 999999 → firstNumber (kind .faults r) ≡ 0 → Fitting (kind .lines r)
 
 -- ---- kinds 1 and 5
 
@@ -67,7 +76,7 @@ row-fits p n row h u e small =
 
 search-fits : (family : Family) → FitsWhere (search family)
 unfolding search
-search-fits family r e =
+search-fits family r six e =
     let a = search-accepted family (r .polynomial) (r .order) (r .values) e in
     rw (a .lightest) (row-fits (r .polynomial) (r .order) (a .row) (a .modulus) (a .high) (a .entries) (a .small))
 
@@ -104,7 +113,7 @@ check-accepted p n v e =
 
 check-fits : FitsWhere check
 unfolding check checkLines checkOf entriesOf
-check-fits r e =
+check-fits r six e =
     let p = r .polynomial in
     let n = r .order in
     let v = r .values in
@@ -129,7 +138,7 @@ survey-six m l u (suc i) = map-six (polynomials m) (polynomials-modulus m l u) i
 -- the survey of degree 8 has 583 bytes
 survey-fits : FitsWhere survey
 unfolding survey surveyFaults
-survey-fits r e =
+survey-fits r six e =
     let m = r .polynomial in
     let (degrees, e₅) = first-passed 3 0 (ltb m 2 || ltb 8 m) _ (λ h. omega arith) e in
     let range = degree-passed m degrees in
@@ -179,7 +188,7 @@ module _ (p n : ℕ) (f : ℕ → ℕ → ℕ) (h : Modulus p) (u : n ≤ 8) (sm
 
 gates-fits : FitsWhere gates
 unfolding gates entriesOf
-gates-fits r e =
+gates-fits r six e =
     let p = r .polynomial in
     let n = r .order in
     let v = r .values in
@@ -190,15 +199,48 @@ gates-fits r e =
       short = gate-lines-short p n (entriesOf n v) (c .modulus) (c .high) small;
     }
 
+-- ---- kind 6
+
+walk-fits : FitsWhere walk
+unfolding walk walkFaults walkLines SixDigits
+walk-fits r six e =
+    let p = r .polynomial in
+    let n = r .order in
+    let v = r .values in
+    let w = walkOf p n v (r .budget) in
+    let passed = brief-passed Hadamard p n v (brief-parts Hadamard p n v _ e .0) in
+    let u = family-most Hadamard n (passed .order) in
+    let (long, small) = row-told p n v (r .budget) (passed .modulus) (w .best) refl in
+    record {
+      six =
+          two-six _ (bestRow n (w .best))
+          (six-walk p n v (r .budget) (passed .modulus) u six)
+          (λ i. le-trans (small i) (lit≤ tt));
+      short = omega (arith, two-length (0 ∷ cond (w .finished) 1 0 ∷ w .rowsTried ∷ bestCount p n (w .best) ∷ lowerBound p n v ∷ []) (bestRow n (w .best)), long, u);
+    }
+
 -- ---- every kind
 
 none-fits : (k : ℕ) → FitsWhere (unknown k)
 unfolding firstNumber
-none-fits k r e = let z : ⊥ = omega arith in absurd z
+none-fits k r six e = let z : ⊥ = omega arith in absurd z
+
+pub budget-small : (text : List ℕ) → budgetOf text ≤ 999999
+unfolding budgetOf furtherOf
+budget-small text = go (furtherNumbers (kindOf text))
+  where
+    go : (n : ℕ) → getD (numbersFrom text 24 n) 0 0 ≤ 999999
+    go zero = unfold numbersFrom in zero-le
+    go (suc n) = unfold numbersFrom in number-six text 24
+
+budget-six : (text : List ℕ) → requestIn text .budget ≤ 999999
+unfolding requestIn
+budget-six text = budget-small text
 
 pub accepted-fits : (text : List ℕ) → due text .number ≡ 0 → Fitting (due text .value)
 accepted-fits text e =
-    rw (due-lines-of text e) (kind-holds FitsWhere search-fits check-fits survey-fits gates-fits none-fits text (requestIn text) (due-passed text e))
+    rw (due-lines-of text e)
+    (kind-holds FitsWhere search-fits check-fits survey-fits gates-fits walk-fits none-fits text (requestIn text) (budget-six text) (due-passed text e))
 
 -- every number of an accepted answer fits six columns
 pub six-columns : (text : List ℕ) → due text .number ≡ 0 → (i : ℕ) → SixDigits (getD (due text .value) i [])

@@ -22,7 +22,7 @@ use Rattle.rows.specs.Keys.{sumOf, lightestRow}
 use Rattle.rows.proofs.Demands.{NoZero}
 use Rattle.rows.proofs.Rows.{getD-mem}
 use Rattle.text.specs.Reading.{inForm, kindOf, valuesOf}
-use Rattle.reply.specs.Due.{Request, Kind, rowLines, search, entriesOf, checkLines, check, survey, gates, kinds, kindAmong, kindIn, requestIn, faultsOf, due}
+use Rattle.reply.specs.Due.{Request, Kind, rowLines, search, entriesOf, checkLines, check, survey, gates, walk, kinds, kindAmong, kindIn, requestIn, faultsOf, due}
 use Rattle.reply.specs.Answered.{textOf}
 use Rattle.answer.proofs.EveryKind.{kind-number}
 use Rattle.answer_row.proofs.Found.{search-accepted}
@@ -51,7 +51,7 @@ checkLinesBefore p n f =
     ∷ [])
     ∷ []
 
--- the kinds: the same numbers and faults, and these lines; kinds 4 and 5, which came later, as they are
+-- the kinds: the same numbers and faults, and these lines; kinds 4, 5 and 6, which came later, as they are
 unfoldable pub searchBefore : Kind
 searchBefore =
     record {
@@ -69,7 +69,7 @@ checkBefore =
     }
 
 unfoldable pub kindsBefore : List Kind
-kindsBefore = searchBefore ∷ checkBefore ∷ survey ∷ gates ∷ search Circulant ∷ []
+kindsBefore = searchBefore ∷ checkBefore ∷ survey ∷ gates ∷ search Circulant ∷ walk ∷ []
 
 -- what was due to a text
 unfoldable pub dueBefore : List ℕ → Answer (List (List ℕ))
@@ -124,13 +124,14 @@ chosen-alike true x y x′ y′ h k = h
 chosen-alike false x y x′ y′ h k = k
 
 kinds-alike : (k : ℕ) → Alike (kindAmong kinds k) (kindAmong kindsBefore k)
-unfolding kinds kindsBefore kindAmong search searchBefore check checkBefore survey gates
+unfolding kinds kindsBefore kindAmong search searchBefore check checkBefore survey gates walk
 kinds-alike k =
     chosen-alike (eqb k 1) (search Hadamard) _ searchBefore _ search-alike
     (chosen-alike (eqb k 2) check _ checkBefore _ check-alike
     (chosen-alike (eqb k 3) survey _ survey _ (λ r. (refl, λ e h. refl))
     (chosen-alike (eqb k 4) gates _ gates _ (λ r. (refl, λ e h. refl))
-    (chosen-alike (eqb k 5) (search Circulant) _ (search Circulant) _ (λ r. (refl, λ e h. refl)) (λ r. (refl, λ e h. refl))))))
+    (chosen-alike (eqb k 5) (search Circulant) _ (search Circulant) _ (λ r. (refl, λ e h. refl))
+    (chosen-alike (eqb k 6) walk _ walk _ (λ r. (refl, λ e h. refl)) (λ r. (refl, λ e h. refl)))))))
 
 -- ---- every text
 

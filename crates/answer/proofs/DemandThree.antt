@@ -1,10 +1,10 @@
 -- Demand 3, of request texts. `demand-three-text`: what is due to a well-formed search is the demanded row, or 9.
 -- `accepted-search` and `accepted-row`: a search that is answered with lines is well formed, and they are those of the demanded row.
 -- `none-exactly`: 9 is due to a search exactly if it is well formed and no row over its candidates has what is asked. `search-answered`: what a
--- call returns and leaves for a search, whatever space is lent; `none-answered`: its part on 9; `nine-answered`: 9 is returned to searches alone.
--- Each of them for both families. `lowest-refusal`: the number is the lowest that applies, by document 01's list. Assumes nothing.
+-- call returns and leaves for a search, whatever space is lent; `none-answered`: its part on 9. Each of them for both families.
+-- Assumes nothing.
 use mathlib.Core.Path.{_≡_, refl, sym, ap, _∙_}
-use mathlib.Core.Logic.{_↔_, _⊎_, inl, inr, ⊎-elim}
+use mathlib.Core.Logic.{_↔_, _⊎_, inl, inr}
 use mathlib.Core.Bool.{Bool, true, false, cond}
 use mathlib.Core.List.{List, [], _∷_, _++_}
 use Prim.Native.Nat.{ℕ, zero, suc, _≤_, _<_}
@@ -13,9 +13,8 @@ use borrow.Author.Tests.{leb-true, leb-false}
 use lib.Dec.{leb}
 use lib.ListN.{length, drop}
 use Rattle.refusal.specs.Refusals.{fault, firstNumber, Applies, Answer, answerAfter}
-use Rattle.refusal.proofs.Faults.{first-applies, first-none, first-lowest, applies-above, applies-most, none-first, after-taken, after-left, after-empty}
+use Rattle.refusal.proofs.Faults.{first-none, first-lowest, applies-above, after-taken, after-left, after-empty}
 use Rattle.refusal.specs.declared.Refusal.the-variants.{NoRow as NoRowReason}
-use Rattle.algebra.proofs.Sums.{le-or-lt}
 use Rattle.rows.specs.declared.Family.{Family}
 use Rattle.rows.specs.Lightest.{Best, nothing, found}
 use Rattle.rows.proofs.Demands.{demand-three, demand-three-none, demand-three-only}
@@ -24,17 +23,18 @@ use Rattle.text.specs.Text.{lineText, answerText}
 use Rattle.text.specs.Reading.{kindOf, polynomialOf, orderOf}
 use Rattle.reply.specs.Due.{searchNumber, rowLines, bestLines, faultsOf, due}
 use Rattle.reply.specs.Answered.{numberReturned, lengthReturned, writtenAt, Replied, Answered}
-use Rattle.answer.specs.Demands.{WellFormedSearch, NoRow, DemandedBy, rowText, SearchDue, row-due, none-due, RowFits, RowTooLong, RowStands, SearchAnswered, Faultless, Lowest, refused, none, accepted, too-short}
-use Rattle.answer.proofs.EveryKind.{faults-numbered, faults-ascend, faults-to-nine, nine-is-search, due-number}
+use Rattle.answer.specs.Limits.{StatedOf}
+use Rattle.answer.specs.Demands.{WellFormedSearch, NoRow, DemandedBy, rowText, SearchDue, row-due, none-due, RowFits, RowTooLong, RowStands, SearchAnswered}
+use Rattle.answer.proofs.EveryKind.{faults-numbered, faults-ascend, due-number}
 use Rattle.answer.proofs.Demands.{FirstFault, at-fault, with-room, without-room, first-fault}
-use Rattle.answer.proofs.Limits.{limits-exactly, stated-applies, well-formed-exactly}
+use Rattle.answer.proofs.Limits.{faultless-exactly}
 use Rattle.answer.proofs.WellFormed.{best, only-nine, passed}
 
 -- ---- a well-formed search
 
 module _ (family : Family) (text : List ℕ) (w : WellFormedSearch family text) where
   -- only one row is demanded
-  one-row : (r s : List ℕ) → DemandedBy family text r → DemandedBy family text s → r ≡ s
+  pub one-row : (r s : List ℕ) → DemandedBy family text r → DemandedBy family text s → r ≡ s
   one-row r s d e =
       let q = demand-three-only family _ _ _ (passed family text w .fits) r d in
       let q′ = demand-three-only family _ _ _ (passed family text w .fits) s e in
@@ -62,10 +62,14 @@ module _ (family : Family) (text : List ℕ) (w : WellFormedSearch family text) 
 
 -- ---- what is answered
 
--- what is due without a refusal
+-- what is due without a refusal: nothing is stated of the text
+pub accepted-faultless : (text : List ℕ) → due text .number ≡ 0 → (k : ℕ) → StatedOf text k → ⊥
+accepted-faultless text e =
+    faultless-exactly text .1 (λ k a l. first-none (faultsOf text) (faults-numbered text) (sym (due-number text) ∙ e) k a)
+
 pub accepted-search : (family : Family) (text : List ℕ) → kindOf text ≡ searchNumber family → due text .number ≡ 0 → WellFormedSearch family text
 accepted-search family text kind e =
-    well-formed-exactly family text kind .1 (λ k a l. first-none (faultsOf text) (faults-numbered text) (sym (due-number text) ∙ e) k a)
+    record { kind-is = kind; faultless = accepted-faultless text e }
 
 pub accepted-row : (family : Family) (text : List ℕ) → kindOf text ≡ searchNumber family → due text .number ≡ 0
     → (r : List ℕ) × DemandedBy family text r × (due text .value ≡ rowLines (polynomialOf text) (orderOf text) r)
@@ -78,11 +82,11 @@ accepted-row family text kind e = go (demand-three-text family text (accepted-se
 
 -- ---- 9
 
--- a search to which 9 is due is well formed
-well-formed-nine : (family : Family) (text : List ℕ) → kindOf text ≡ searchNumber family → due text .number ≡ 9 → WellFormedSearch family text
-well-formed-nine family text kind e =
+-- nothing is stated of a text to which 9 is due
+pub nine-faultless : (text : List ℕ) → due text .number ≡ 9 → (k : ℕ) → StatedOf text k → ⊥
+nine-faultless text e =
     let nine : firstNumber (faultsOf text) ≡ 9 = sym (due-number text) ∙ e in
-    well-formed-exactly family text kind .1
+    faultless-exactly text .1
     (λ k a l. let lowest : firstNumber (faultsOf text) ≤ k = first-lowest 0 (faultsOf text) (faults-ascend text) k a in omega arith)
 
 -- what is due to a search is 9 exactly if no row has what is asked
@@ -94,16 +98,9 @@ nine-of (none-due f) = (λ e. f, λ g. refl)
 pub none-exactly : (family : Family) (text : List ℕ)
     → ((kindOf text ≡ searchNumber family) × (due text .number ≡ 9)) ↔ (WellFormedSearch family text × NoRow family text)
 none-exactly family text = (
-  λ (kind, e). let w = well-formed-nine family text kind e in (w, nine-of (demand-three-text family text w) .0 e),
+  λ (kind, e). let w : WellFormedSearch family text = record { kind-is = kind; faultless = nine-faultless text e } in (w, nine-of (demand-three-text family text w) .0 e),
   λ (w, h). (w .kind-is, nine-of (demand-three-text family text w) .1 h),
 )
-
--- 9 is due to searches alone
-pub nine-search : (text : List ℕ) → due text .number ≡ 9 → (family : Family) × WellFormedSearch family text × NoRow family text
-nine-search text e =
-    let (family, kind) = nine-is-search text (first-applies (faultsOf text) 8 (sym (due-number text) ∙ e)) in
-    let (w, h) = none-exactly family text .0 (kind, e) in
-    (family, w, h)
 
 -- it is returned exactly where it is due, whatever space is lent
 returned-nine : (m : ℕ) (fits : Bool) → (numberReturned m fits ≡ 9) ↔ (m ≡ 9)
@@ -111,18 +108,22 @@ returned-nine zero true = (λ e. let y : ⊥ = omega arith in absurd y, λ e. le
 returned-nine zero false = (λ e. let y : ⊥ = omega arith in absurd y, λ e. let y : ⊥ = omega arith in absurd y)
 returned-nine (suc m) fits = (λ e. e, λ e. e)
 
--- without a fault none of 1 to 9 applies
-no-fault : (text : List ℕ) → ((k : ℕ) → Applies (faultsOf text) k → ⊥) → Faultless text
-no-fault text clear =
-    record {
-      none-stated = λ k s. clear k (stated-applies s);
-      row-exists = λ family kind h.
-          let nine = none-exactly family text .1 (well-formed-exactly family text kind .1 (λ k a l. clear k a), h) .1 in
-          let zero = due-number text ∙ none-first (faultsOf text) clear in
-          omega arith;
-    }
-
 -- ---- what a call returns and leaves
+
+module _ {text space after : List ℕ} {number size : ℕ} (a : Answered text space after number size) where
+  pub nine-returned : (number ≡ 9) ↔ (due text .number ≡ 9)
+  nine-returned =
+      let told = returned-nine (due text .number) _ in
+      (λ e. told .0 (sym (a .reply .number-is) ∙ e), λ e. a .reply .number-is ∙ told .1 e)
+
+  -- of a text that is not refused with 1 to 8 nothing is stated
+  pub not-refused : (0 < number → number ≤ 8 → ⊥) → (k : ℕ) → StatedOf text k → ⊥
+  not-refused h = faultless-exactly text .1 (go (first-fault a))
+    where
+      go : FirstFault text space number → (k : ℕ) → Applies (faultsOf text) k → k ≤ 8 → ⊥
+      go (at-fault x low) k y l = let least = low k y in h (applies-above 0 (faultsOf text) (faults-ascend text) number x) (omega arith)
+      go (with-room clear fit z) k y l = clear k y
+      go (without-room clear short z) k y l = clear k y
 
 -- for a well-formed search: 0 and the text of the row demanded where it fits, 10 where it does not; or 9 and its line
 data SearchLeaves (family : Family) (text space after : List ℕ) (number size : ℕ) : Type 0 where
@@ -188,15 +189,6 @@ module _ {family : Family} {text space after : List ℕ} {number size : ℕ} whe
   long-ten w (short-left f z s) g = z
   long-ten w (none-left f z s) g = absurd (f (g .row) (g .demanded .has))
 
-  -- a search that is not refused with 1 to 8 is well formed
-  not-refused : Answered text space after number size → kindOf text ≡ searchNumber family → (0 < number → number ≤ 8 → ⊥) → WellFormedSearch family text
-  not-refused a kind h = well-formed-exactly family text kind .1 (go (first-fault a))
-    where
-      go : FirstFault text space number → (k : ℕ) → Applies (faultsOf text) k → k ≤ 8 → ⊥
-      go (at-fault x low) k y l = let least = low k y in h (applies-above 0 (faultsOf text) (faults-ascend text) number x) (omega arith)
-      go (with-room clear fit z) k y l = clear k y
-      go (without-room clear short z) k y l = clear k y
-
   pub search-answered : Answered text space after number size → SearchAnswered family text space after number size
   search-answered a =
       record {
@@ -213,42 +205,16 @@ module _ {family : Family} {text space after : List ℕ} {number size : ℕ} whe
       left w = left-by (demand-three-text family text w) (a .reply)
 
       at-zero : kindOf text ≡ searchNumber family → number ≡ 0 → WellFormedSearch family text
-      at-zero kind z = not-refused a kind (λ h l. omega arith)
+      at-zero kind z = record { kind-is = kind; faultless = not-refused a (λ h l. omega arith) }
 
       at-ten : kindOf text ≡ searchNumber family → number ≡ 10 → WellFormedSearch family text
-      at-ten kind z = not-refused a kind (λ h l. omega arith)
-
-      returned : (number ≡ 9) ↔ (due text .number ≡ 9)
-      returned =
-          let told = returned-nine (due text .number) _ in
-          (λ e. told .0 (sym (a .reply .number-is) ∙ e), λ e. a .reply .number-is ∙ told .1 e)
+      at-ten kind z = record { kind-is = kind; faultless = not-refused a (λ h l. omega arith) }
 
       nine : ((kindOf text ≡ searchNumber family) × (number ≡ 9)) ↔ (WellFormedSearch family text × NoRow family text)
       nine = (
-        λ (kind, e). none-exactly family text .0 (kind, returned .0 e),
-        λ h. let (kind, e) = none-exactly family text .1 h in (kind, returned .1 e),
+        λ (kind, e). none-exactly family text .0 (kind, nine-returned a .0 e),
+        λ h. let (kind, e) = none-exactly family text .1 h in (kind, nine-returned a .1 e),
       )
 
   pub none-answered : Answered text space after number size → WellFormedSearch family text → (number ≡ 9) ↔ NoRow family text
   none-answered a w = let nine = search-answered a .nine-exactly in (λ e. nine .0 (w .kind-is, e) .1, λ h. nine .1 (w, h) .1)
-
-module _ {text space after : List ℕ} {number size : ℕ} where
-  -- 9 is returned to searches alone
-  pub nine-answered : Answered text space after number size → number ≡ 9 → (family : Family) × WellFormedSearch family text × NoRow family text
-  nine-answered a e = nine-search text (returned-nine (due text .number) _ .0 (sym (a .reply .number-is) ∙ e))
-
-  -- ---- the lowest number that applies
-
-  pub lowest-refusal : Answered text space after number size → Lowest text space number
-  lowest-refusal a = go (first-fault a)
-    where
-      go : FirstFault text space number → Lowest text space number
-      go (at-fault x low) =
-          ⊎-elim (λ (l : number ≤ 8). refused (limits-exactly text number l .0 x) (λ k s. low k (stated-applies s)))
-          (λ (l : 8 < number).
-          let most = applies-most 9 (faultsOf text) (faults-to-nine text) number x in
-          let e : number ≡ 9 = omega arith in
-          let (family, w, h) = nine-answered a e in none family w h e)
-          (le-or-lt number 8)
-      go (with-room clear fit z) = accepted (no-fault text clear) fit z
-      go (without-room clear short z) = too-short (no-fault text clear) short z

@@ -96,7 +96,7 @@ module _ {text space after : List ℕ} {number size : ℕ} (a : Answered text sp
       returned-refusal (due text .number) (leb long (length space)) (λ e. f (is ∙ e)) (λ e. g (is ∙ e)) ∙ sym is
 
   -- its line is written, where it fits
-  told : (number ≡ 0 → ⊥) → (number ≡ 10 → ⊥) → after ≡ writtenAt (lineText (number ∷ [])) space
+  pub told : (number ≡ 0 → ⊥) → (number ≡ 10 → ⊥) → after ≡ writtenAt (lineText (number ∷ [])) space
   told f g =
       a .reply .bytes
       ∙ ap (λ (m : ℕ). writtenAt (textOf m (due text .value)) space) (refused-due f g)

@@ -4,6 +4,8 @@ pub mod Limits
 pub mod Demands
 pub mod WellFormed
 pub mod DemandThree
+pub mod Walks
+pub mod Lowest
 pub mod Acceptance
 pub mod Shown
 pub mod WholeInput

@@ -1,31 +1,31 @@
 -- Each of the numbers 1 to 8 applies to a request text exactly if document 01 states it (`limits-exactly`): the tests of every kind decide
 -- what is stated of it. Assumes nothing.
-use mathlib.Core.Path.{_≡_, refl, subst}
-use mathlib.Core.Logic.{_≢_, _↔_, _⊎_}
-use mathlib.Core.Bool.{true, not, _||_}
-use mathlib.Core.List.{List, [], _∷_, List·Memᴰ, List·Memᴰ·tail, List·Memᴰ·not-nil}
+use mathlib.Core.Path.{_≡_, refl, sym, subst, _∙_}
+use mathlib.Core.Logic.{_≢_, _↔_, _⊎_, ⊎-elim}
+use mathlib.Core.Bool.{Bool, true, false, cond, not, _||_, true≢false}
+use mathlib.Core.List.{List, [], _∷_, _++_, List·Memᴰ, List·Memᴰ·tail, List·Memᴰ·not-nil, List·Memᴰ·append-cases, Memᴰ·append-left}
 use Prim.Native.Nat.{ℕ, _*_, _≤_, _<_}
-use native.Mathlib.Decide.{ℕ-discrete}
 use native.Mathlib.Omega.{arith}
-use borrow.Author.Tests.{ne-eqb}
+use borrow.Author.Tests.{eqb-true, eq-eqb, ne-eqb}
 use lib.Dec.{eqb, ltb, lit≤}
 use lib.ListN.{length}
-use Rattle.refusal.specs.Refusals.{fault, Applies}
+use Rattle.refusal.specs.Refusals.{Fault, fault, Applies}
 use Rattle.refusal.proofs.Faults.{fault-here, fault-cases}
 use Rattle.refusal.proofs.Tests.{never-passes, below-exactly, same-exactly, not-exactly, or-exactly}
 use Rattle.field.proofs.Limits.{call-exactly, stated-most}
 use Rattle.checks.proofs.Limits.{order-exactly}
 use Rattle.rows.specs.declared.Family.{Family}
 use Rattle.rows.specs.declared.Family.the-variants.{Hadamard, Circulant}
+use Rattle.rows.specs.Walks.{Walked}
+use Rattle.search.specs.Answer.{briefFaults, searchFaults}
 use Rattle.search.specs.Stated.{StatedFor}
+use Rattle.walk.specs.Answer.{walkFaults}
 use Rattle.search.proofs.Limits.{some-too-large-exactly, search-exactly}
 use Rattle.text.specs.Text.{InForm}
 use Rattle.text.specs.Reading.{inForm, kindOf}
 use Rattle.text.proofs.Requests.{in-form-exactly}
-use Rattle.reply.specs.Due.{Request, Kind, checkFaults, surveyFaults, searchNumber, search, check, survey, gates, kinds, kindAmong, kindIn, requestIn, faultsOf}
-use Rattle.answer.specs.Limits.{CheckStated, SurveyStated, wrong-degree, order-not-zero, count-not-zero, RequestStated, no-kind, of-search, of-check, of-survey, of-gates, StatedOf, not-in-form, of-request}
-use Rattle.answer.specs.Demands.{WellFormedSearch}
-use Rattle.reply.proofs.DueFrom.{kind-search, kind-check, kind-survey, kind-gates}
+use Rattle.reply.specs.Due.{Request, Kind, checkFaults, surveyFaults, searchNumber, search, check, survey, gates, walk, kinds, kindAmong, kindIn, requestIn, faultsOf}
+use Rattle.answer.specs.Limits.{CheckStated, SurveyStated, wrong-degree, order-not-zero, count-not-zero, RequestStated, no-kind, of-search, of-check, of-survey, of-gates, of-walk, StatedOf, not-in-form, of-request}
 use Rattle.answer.proofs.EveryKind.{unknown}
 
 -- ---- a check
@@ -63,114 +63,113 @@ survey-exactly m order values k = (to, from)
     from (order-not-zero h) = List·Memᴰ·tail (fault-here 5 (survey-order-exactly order .1 h))
     from (count-not-zero h) = List·Memᴰ·tail (List·Memᴰ·tail (fault-here 6 (survey-count-exactly values .1 h)))
 
+-- ---- a walk
+
+-- the test of 9, the last one, tells nothing of the numbers below
+below-nine : (l : List Fault) (b c : Bool) (k : ℕ) → k ≤ 8 → Applies (l ++ fault 9 b ∷ []) k → Applies (l ++ fault 9 c ∷ []) k
+unfolding Applies
+below-nine l b c k h m =
+    ⊎-elim (λ i. Memᴰ·append-left _ i) (fault-cases 9 (λ e t. let z : ⊥ = omega arith in absurd z) (λ i. absurd (List·Memᴰ·not-nil i)))
+    (List·Memᴰ·append-cases l m)
+
+-- 3 to 8 of a walk are those of the search
+pub walk-exactly : (p n : ℕ) (values : List ℕ) (w : Walked) (k : ℕ) → k ≤ 8 → Applies (walkFaults p n values w) k ↔ StatedFor Hadamard p n values k
+unfolding walkFaults searchFaults
+walk-exactly p n values w k l =
+    let brief = briefFaults Hadamard p n values in
+    let exactly = search-exactly Hadamard p n values (w .best) k l in
+    (λ m. exactly .0 (below-nine brief _ _ k l m), λ s. below-nine brief _ _ k l (exactly .1 s))
+
 -- ---- every kind
 
--- no search has the number of another kind, nor of another search
-not-search : {kind : ℕ} (family : Family) (m : ℕ) → m ≢ 1 → m ≢ 5 → kind ≡ m → kind ≡ searchNumber family → ⊥
-not-search Hadamard m one five e d = one (omega arith)
-not-search Circulant m one five e d = five (omega arith)
+-- one statement or the other, by a test
+unfoldable Chosen : Bool → Type 0 → Type 0 → Type 0
+Chosen true S T = S
+Chosen false S T = T
 
-known-search : {kind : ℕ} (family : Family) → kind ≡ searchNumber family → kind ≢ 1 → kind ≢ 5 → ⊥
-known-search Hadamard e one five = one e
-known-search Circulant e one five = five e
+-- what is stated of a request, by the number of its kind
+unfoldable Said : ℕ → ℕ → ℕ → List ℕ → ℕ → Type 0
+Said kind p n values k =
+    Chosen (eqb kind 1) (StatedFor Hadamard p n values k)
+    (Chosen (eqb kind 2) (CheckStated p n values k)
+    (Chosen (eqb kind 3) (SurveyStated p n values k)
+    (Chosen (eqb kind 4) (CheckStated p n values k)
+    (Chosen (eqb kind 5) (StatedFor Circulant p n values k)
+    (Chosen (eqb kind 6) (StatedFor Hadamard p n values k) (k ≡ 2))))))
 
-same-search : {kind : ℕ} (family other : Family) → kind ≡ searchNumber family → kind ≡ searchNumber other → other ≡ family
-same-search Hadamard Hadamard e d = refl
-same-search Hadamard Circulant e d = let z : ⊥ = omega arith in absurd z
-same-search Circulant Hadamard e d = let z : ⊥ = omega arith in absurd z
-same-search Circulant Circulant e d = refl
+-- by the test that passes
+by-number : {R S T : Type 0} (kind m : ℕ) → (kind ≡ m → S → R) → (kind ≢ m → T → R) → Chosen (eqb kind m) S T → R
+unfolding Chosen
+by-number {R} {S} {T} kind m h h′ = go (eqb kind m) refl
+  where
+    go : (b : Bool) → eqb kind m ≡ b → Chosen b S T → R
+    go true e s = h (eqb-true kind m e) s
+    go false e t = h′ (λ q. true≢false (sym (eq-eqb kind m q) ∙ e)) t
 
--- what is stated of a request is stated by its kind
-module _ {kind polynomial order : ℕ} {values : List ℕ} where
-  stated-search : {k : ℕ} (family : Family) → kind ≡ searchNumber family → RequestStated kind polynomial order values k → StatedFor family polynomial order values k
-  stated-search family e (no-kind a b c d f) = absurd (known-search family e a f)
-  stated-search {k} family e (of-search other d s) = subst (λ (f : Family). StatedFor f polynomial order values k) (same-search family other e d) s
-  stated-search family e (of-check d s) = absurd (not-search family 2 (λ z. omega arith) (λ z. omega arith) d e)
-  stated-search family e (of-survey d s) = absurd (not-search family 3 (λ z. omega arith) (λ z. omega arith) d e)
-  stated-search family e (of-gates d s) = absurd (not-search family 4 (λ z. omega arith) (λ z. omega arith) d e)
+module _ {kind p n : ℕ} {values : List ℕ} where
+  -- it is what is stated of the request
+  stated-said : {k : ℕ} → RequestStated kind p n values k → Said kind p n values k
+  unfolding Said Chosen
+  stated-said (no-kind a b c d f g) = rw (ne-eqb kind 1 a, ne-eqb kind 2 b, ne-eqb kind 3 c, ne-eqb kind 4 d, ne-eqb kind 5 f, ne-eqb kind 6 g) refl
+  stated-said (of-search Hadamard e s) = rw e s
+  stated-said (of-search Circulant e s) = rw e s
+  stated-said (of-check e s) = rw e s
+  stated-said (of-survey e s) = rw e s
+  stated-said (of-gates e s) = rw e s
+  stated-said (of-walk e s) = rw e s
 
-  stated-check : {k : ℕ} → kind ≡ 2 → RequestStated kind polynomial order values k → CheckStated polynomial order values k
-  stated-check e (no-kind a b c d f) = absurd (b e)
-  stated-check e (of-search family d s) = absurd (not-search family 2 (λ z. omega arith) (λ z. omega arith) e d)
-  stated-check e (of-check d s) = s
-  stated-check e (of-survey d s) = let z : ⊥ = omega arith in absurd z
-  stated-check e (of-gates d s) = let z : ⊥ = omega arith in absurd z
+  said-stated : {k : ℕ} → Said kind p n values k → RequestStated kind p n values k
+  unfolding Said
+  said-stated =
+      by-number kind 1 (of-search Hadamard) (λ a.
+      by-number kind 2 of-check (λ b.
+      by-number kind 3 of-survey (λ c.
+      by-number kind 4 of-gates (λ d.
+      by-number kind 5 (of-search Circulant) (λ f.
+      by-number kind 6 of-walk (λ g e. rw e (no-kind a b c d f g)))))))
 
-  stated-survey : {k : ℕ} → kind ≡ 3 → RequestStated kind polynomial order values k → SurveyStated polynomial order values k
-  stated-survey e (no-kind a b c d f) = absurd (c e)
-  stated-survey e (of-search family d s) = absurd (not-search family 3 (λ z. omega arith) (λ z. omega arith) e d)
-  stated-survey e (of-check d s) = let z : ⊥ = omega arith in absurd z
-  stated-survey e (of-survey d s) = s
-  stated-survey e (of-gates d s) = let z : ⊥ = omega arith in absurd z
+  -- of a search, and of a walk
+  pub search-stated : {k : ℕ} (family : Family) → kind ≡ searchNumber family → RequestStated kind p n values k → StatedFor family p n values k
+  unfolding Said Chosen
+  search-stated {k} Hadamard e s = subst (λ (m : ℕ). Said m p n values k) e (stated-said s)
+  search-stated {k} Circulant e s = subst (λ (m : ℕ). Said m p n values k) e (stated-said s)
 
-  stated-gates : {k : ℕ} → kind ≡ 4 → RequestStated kind polynomial order values k → CheckStated polynomial order values k
-  stated-gates e (no-kind a b c d f) = absurd (d e)
-  stated-gates e (of-search family d s) = absurd (not-search family 4 (λ z. omega arith) (λ z. omega arith) e d)
-  stated-gates e (of-check d s) = let z : ⊥ = omega arith in absurd z
-  stated-gates e (of-survey d s) = let z : ⊥ = omega arith in absurd z
-  stated-gates e (of-gates d s) = s
+  pub walk-stated : {k : ℕ} → kind ≡ 6 → RequestStated kind p n values k → StatedFor Hadamard p n values k
+  unfolding Said Chosen
+  walk-stated {k} e s = subst (λ (m : ℕ). Said m p n values k) e (stated-said s)
 
-module _ (number : ℕ) (r : Request) (k : ℕ) where
-  -- the numbers of a kind's faults are those stated of a request of this number
-  abbrev Limited : Kind → Type 0
-  Limited kind = Applies (kind .faults r) k ↔ RequestStated number (r .polynomial) (r .order) (r .values) k
+module _ (r : Request) (k : ℕ) where
+  -- the numbers of a kind's faults are these
+  abbrev Exactly : Kind → Type 0 → Type 0
+  Exactly kind S = Applies (kind .faults r) k ↔ S
 
-  search-limited : (family : Family) → k ≤ 8 → number ≡ searchNumber family → Limited (search family)
-  unfolding search
-  search-limited family l e =
-      let exactly = search-exactly family (r .polynomial) (r .order) (r .values) _ k l in
-      (λ m. of-search family e (exactly .0 m), λ s. exactly .1 (stated-search family e s))
+  chosen-exactly : (b : Bool) (x y : Kind) (S T : Type 0) → Exactly x S → Exactly y T → Exactly (cond b x y) (Chosen b S T)
+  unfolding Chosen
+  chosen-exactly true x y S T h h′ = h
+  chosen-exactly false x y S T h h′ = h′
 
-  check-limited : number ≡ 2 → Limited check
-  unfolding check
-  check-limited e =
-      let exactly = check-exactly (r .polynomial) (r .order) (r .values) k in
-      (λ m. of-check e (exactly .0 m), λ s. exactly .1 (stated-check e s))
-
-  survey-limited : number ≡ 3 → Limited survey
-  unfolding survey
-  survey-limited e =
-      let exactly = survey-exactly (r .polynomial) (r .order) (r .values) k in
-      (λ m. of-survey e (exactly .0 m), λ s. exactly .1 (stated-survey e s))
-
-  gates-limited : number ≡ 4 → Limited gates
-  unfolding gates
-  gates-limited e =
-      let exactly = check-exactly (r .polynomial) (r .order) (r .values) k in
-      (λ m. of-gates e (exactly .0 m), λ s. exactly .1 (stated-gates e s))
-
-  unknown-limited : number ≢ 1 → number ≢ 2 → number ≢ 3 → number ≢ 4 → number ≢ 5 → Limited (unknown number)
+  unknown-exactly : (number : ℕ) → Exactly (unknown number) (k ≡ 2)
   unfolding Applies
-  unknown-limited a b c d f = (fault-cases 2 (λ e t. rw e (no-kind a b c d f)) (λ m. absurd (List·Memᴰ·not-nil m)), from)
-    where
-      from : {k : ℕ} → RequestStated number (r .polynomial) (r .order) (r .values) k → List·Memᴰ (fault k true) (fault 2 true ∷ [])
-      from (no-kind e g i j l) = fault-here 2 refl
-      from (of-search family e s) = absurd (known-search family e a f)
-      from (of-check e s) = absurd (b e)
-      from (of-survey e s) = absurd (c e)
-      from (of-gates e s) = absurd (d e)
+  unknown-exactly number = (fault-cases 2 (λ e t. e) (λ m. absurd (List·Memᴰ·not-nil m)), λ e. rw e (fault-here 2 refl))
 
-  kind-other : number ≢ 1 → number ≢ 2 → number ≢ 3 → number ≢ 4 → number ≢ 5 → unknown number ≡ kindAmong kinds number
-  unfolding kinds kindAmong search check survey gates
-  kind-other a b c d f = rw (ne-eqb number 1 a, ne-eqb number 2 b, ne-eqb number 3 c, ne-eqb number 4 d, ne-eqb number 5 f) refl
+  -- every kind's are those stated of its requests
+  kind-said : (number : ℕ) → k ≤ 8 → Exactly (kindAmong kinds number) (Said number (r .polynomial) (r .order) (r .values) k)
+  unfolding kinds kindAmong search check survey gates walk Said
+  kind-said number l =
+      let p = r .polynomial in
+      let n = r .order in
+      let v = r .values in
+      chosen-exactly (eqb number 1) (search Hadamard) _ _ _ (search-exactly Hadamard p n v _ k l)
+      (chosen-exactly (eqb number 2) check _ _ _ (check-exactly p n v k)
+      (chosen-exactly (eqb number 3) survey _ _ _ (survey-exactly p n v k)
+      (chosen-exactly (eqb number 4) gates _ _ _ (check-exactly p n v k)
+      (chosen-exactly (eqb number 5) (search Circulant) _ _ _ (search-exactly Circulant p n v _ k l)
+      (chosen-exactly (eqb number 6) walk _ _ _ (walk-exactly p n v _ k l) (unknown-exactly number))))))
 
-  kind-limited : k ≤ 8 → Limited (kindAmong kinds number)
-  kind-limited l = elim (ℕ-discrete number 1) [
-    | yes a ↦ subst Limited (kind-search number Hadamard a) (search-limited Hadamard l a)
-    | no a ↦ elim (ℕ-discrete number 2) [
-      | yes b ↦ subst Limited (kind-check number b) (check-limited b)
-      | no b ↦ elim (ℕ-discrete number 3) [
-        | yes c ↦ subst Limited (kind-survey number c) (survey-limited c)
-        | no c ↦ elim (ℕ-discrete number 4) [
-          | yes d ↦ subst Limited (kind-gates number d) (gates-limited d)
-          | no d ↦ elim (ℕ-discrete number 5) [
-            | yes f ↦ subst Limited (kind-search number Circulant f) (search-limited Circulant l f)
-            | no f ↦ subst Limited (kind-other a b c d f) (unknown-limited a b c d f)
-          ]
-        ]
-      ]
-    ]
-  ]
+  kind-limited : (number : ℕ) → k ≤ 8 → Exactly (kindAmong kinds number) (RequestStated number (r .polynomial) (r .order) (r .values) k)
+  kind-limited number l =
+      let exactly = kind-said number l in
+      (λ m. said-stated (exactly .0 m), λ s. exactly .1 (stated-said s))
 
 -- ---- a text
 
@@ -182,11 +181,11 @@ limits-exactly text k l = (to, from l)
     form = not-exactly _ (in-form-exactly text)
 
     to : List·Memᴰ (fault k true) (faultsOf text) → StatedOf text k
-    to = fault-cases 1 (λ e t. rw e (not-in-form (form .0 t))) (λ m. of-request (kind-limited (kindOf text) (requestIn text) k l .0 m))
+    to = fault-cases 1 (λ e t. rw e (not-in-form (form .0 t))) (λ m. of-request (kind-limited (requestIn text) k (kindOf text) l .0 m))
 
     from : {k : ℕ} → k ≤ 8 → StatedOf text k → List·Memᴰ (fault k true) (faultsOf text)
     from l (not-in-form h) = fault-here 1 (form .1 h)
-    from l (of-request {k = k} s) = List·Memᴰ·tail (kind-limited (kindOf text) (requestIn text) k l .1 s)
+    from l (of-request {k = k} s) = List·Memᴰ·tail (kind-limited (requestIn text) k (kindOf text) l .1 s)
 
 -- what is stated has a number up to 8
 survey-most : {m order : ℕ} {values : List ℕ} {k : ℕ} → SurveyStated m order values k → k ≤ 8
@@ -195,12 +194,13 @@ survey-most (order-not-zero h) = lit≤ tt
 survey-most (count-not-zero h) = lit≤ tt
 
 request-most : {kind polynomial order : ℕ} {values : List ℕ} {k : ℕ} → RequestStated kind polynomial order values k → k ≤ 8
-request-most (no-kind a b c d f) = lit≤ tt
+request-most (no-kind a b c d f g) = lit≤ tt
 request-most (of-search Hadamard e s) = stated-most s
 request-most (of-search Circulant e s) = stated-most s
 request-most (of-check e s) = stated-most s
 request-most (of-survey e s) = survey-most s
 request-most (of-gates e s) = stated-most s
+request-most (of-walk e s) = stated-most s
 
 text-most : {text : List ℕ} {k : ℕ} → StatedOf text k → k ≤ 8
 text-most (not-in-form h) = lit≤ tt
@@ -210,9 +210,6 @@ text-most (of-request s) = request-most s
 pub stated-applies : {text : List ℕ} {k : ℕ} → StatedOf text k → Applies (faultsOf text) k
 stated-applies {text} {k} s = limits-exactly text k (text-most s) .1 s
 
--- a search is well formed exactly if it has no fault with a number up to 8
-pub well-formed-exactly : (family : Family) (text : List ℕ) → kindOf text ≡ searchNumber family → WellFormedSearch family text ↔ ((k : ℕ) → Applies (faultsOf text) k → k ≤ 8 → ⊥)
-well-formed-exactly family text e = (
-  λ w k a l. w .faultless k (limits-exactly text k l .0 a),
-  λ h. record { kind-is = e; faultless = λ k s. h k (stated-applies s) (text-most s) },
-)
+-- nothing is stated of a text exactly if it has no fault with a number up to 8
+pub faultless-exactly : (text : List ℕ) → ((k : ℕ) → StatedOf text k → ⊥) ↔ ((k : ℕ) → Applies (faultsOf text) k → k ≤ 8 → ⊥)
+faultless-exactly text = (λ h k a l. h k (limits-exactly text k l .0 a), λ h k s. h k (stated-applies s) (text-most s))

@@ -1,47 +1,43 @@
--- A well-formed search: none of the faults 1 to 8 is there, so its numbers have passed every test (`passed`), and only 9 is left
--- (`only-nine`). Assumes nothing.
+-- A well-formed search or walk: none of the faults 1 to 8 is there, so its numbers have passed every test (`passed`, `walk-passed`), and only 9 is
+-- left (`only-nine`, `walk-nine`). Assumes nothing.
 use mathlib.Core.Path.{_≡_, refl, sym, _∙_}
-use mathlib.Core.Bool.{Bool, false, not}
-use mathlib.Core.List.{List, [], _∷_, List·Memᴰ, List·Memᴰ·head, List·Memᴰ·tail}
-use Prim.Native.Nat.{ℕ, _^_, _≤_, _<_}
+use mathlib.Core.Bool.{Bool, false, not, _&&_}
+use mathlib.Core.List.{List, [], _∷_, _++_, List·Memᴰ, List·Memᴰ·head, List·Memᴰ·tail, Memᴰ·append-left}
+use Prim.Native.Nat.{ℕ, _^_, _<_}
 use lib.Dec.{lit≤}
-use lib.ListN.{length}
-use Rattle.refusal.specs.Refusals.{fault, answerAfter}
-use Rattle.refusal.proofs.Faults.{absent, first-left, first-empty, after-left}
-use Rattle.field.specs.Polynomial.{Modulus, degree, isIrreducible}
-use Rattle.field.specs.Faults.{isOutside, polynomialFaults}
-use Rattle.field.proofs.Calls.{number-modulus, not-too-large}
+use Rattle.refusal.specs.Refusals.{fault, firstNumber, Applies, answerAfter}
+use Rattle.refusal.proofs.Faults.{most, absent, applies-most, none-first, after-left}
+use Rattle.field.specs.Polynomial.{Modulus, degree}
+use Rattle.field.specs.Faults.{polynomialFaults}
+use Rattle.field.proofs.Calls.{not-too-large}
 use Rattle.rows.specs.declared.Family.{Family}
+use Rattle.rows.specs.declared.Family.the-variants.{Hadamard}
 use Rattle.rows.specs.Lightest.{Best}
 use Rattle.rows.specs.Shape.{shapeOf}
 use Rattle.rows.specs.Keys.{lightestRow}
+use Rattle.rows.specs.Candidates.{someBad}
 use Rattle.cuts.specs.Steps.Families.{OrderOf}
-use Rattle.rows.specs.Candidates.{someTooLarge, someBad}
-use Rattle.search.specs.Answer.{isWrongOrderFor, isWrongCountFor, isNone, searchFaults}
 use Rattle.lightest.proofs.LetterCounts.{member-fits}
-use Rattle.search.proofs.Refusals.{family-order}
-use Rattle.text.specs.Reading.{inForm, kindOf, polynomialOf, orderOf, valuesOf}
-use Rattle.reply.specs.Due.{searchNumber, bestLines, search, requestIn, faultsOf, due}
-use Rattle.answer.specs.Demands.{WellFormedSearch}
-use Rattle.answer.proofs.EveryKind.{kind-is-search}
-use Rattle.answer.proofs.Limits.{well-formed-exactly}
+use Rattle.search.specs.Answer.{isNone, briefFaults, searchFaults}
+use Rattle.search.proofs.Refusals.{brief-passed, brief-behind}
+use Rattle.walk.specs.Answer.{walkFaults}
+use Rattle.text.specs.Reading.{inForm, polynomialOf, orderOf, valuesOf}
+use Rattle.reply.specs.Due.{bestLines, search, walk, kindIn, requestIn, faultsOf, due}
+use Rattle.answer.specs.Limits.{StatedOf}
+use Rattle.answer.specs.Demands.{WellFormedSearch, walkIn, walkLinesIn, WellFormedWalk}
+use Rattle.answer.proofs.EveryKind.{kind-is-search, kind-is-walk}
+use Rattle.answer.proofs.Limits.{faultless-exactly}
 
--- the lightest row over the candidates of a search, and its faults
-abbrev pub best : Family → List ℕ → Best
-best family text = lightestRow (shapeOf family) (polynomialOf text) (orderOf text) (valuesOf text)
-
-search-faults : (family : Family) (text : List ℕ) → kindOf text ≡ searchNumber family
-    → faultsOf text ≡ fault 1 (not (inForm text)) ∷ searchFaults family (polynomialOf text) (orderOf text) (valuesOf text) (best family text)
-unfolding faultsOf requestIn search
-search-faults family text e = rw (kind-is-search family text e) refl
-
--- a polynomial with a field, an order of a search, and candidates that are elements
+-- a polynomial with a field, an order of a search, and candidates that are elements and not bad
 pub record Passed (family : Family) (p n : ℕ) (values : List ℕ) : Type 0 where
   pub modulus : Modulus p
   pub order : OrderOf family n
   pub fits : (a : ℕ) → List·Memᴰ a values → a < 2 ^ degree p
+  pub good : someBad values ≡ false
 
-module _ (family : Family) (text : List ℕ) (w : WellFormedSearch family text) where
+-- ---- a text with the faults of a brief, and 9 behind them
+
+module _ (family : Family) (text : List ℕ) where
   abbrev p : ℕ
   p = polynomialOf text
 
@@ -51,56 +47,62 @@ module _ (family : Family) (text : List ℕ) (w : WellFormedSearch family text) 
   abbrev v : List ℕ
   v = valuesOf text
 
-  -- a fault of the list with a number up to 8 is not there
-  not-there : (k : ℕ) (b : Bool) → k ≤ 8 → List·Memᴰ (fault k b) (fault 1 (not (inForm text)) ∷ searchFaults family p n v (best family text)) → b ≡ false
-  not-there k b l m = absent (faultsOf text) k b (rw (search-faults family text (w .kind-is)) m) (λ a. well-formed-exactly family text (w .kind-is) .0 w k a l)
+  module _ (nine : Bool) (faults : kindIn text .faults (requestIn text) ≡ briefFaults family p n v ++ fault 9 nine ∷ [])
+      (faultless : (k : ℕ) → StatedOf text k → ⊥) where
+    is-form : not (inForm text) ≡ false
+    unfolding faultsOf
+    is-form = absent (faultsOf text) 1 _ (List·Memᴰ·head refl) (λ a. faultless-exactly text .0 faultless 1 a (lit≤ tt))
 
-  is-form : not (inForm text) ≡ false
-  is-form = not-there 1 _ (lit≤ tt) (List·Memᴰ·head refl)
+    -- nothing applies to the brief
+    brief-none : firstNumber (briefFaults family p n v) ≡ 0
+    unfolding faultsOf Applies
+    brief-none =
+        none-first (briefFaults family p n v)
+        (λ k a.
+        faultless-exactly text .0 faultless k (List·Memᴰ·tail (rw faults (Memᴰ·append-left (fault 9 nine ∷ []) a)))
+        (applies-most 8 (briefFaults family p n v) (unfold polynomialFaults most in refl) k a))
 
-  not-outside : isOutside p ≡ false
-  unfolding searchFaults polynomialFaults
-  not-outside = not-there 3 _ (lit≤ tt) (List·Memᴰ·tail (List·Memᴰ·head refl))
+    brief-only-nine : due text ≡ answerAfter [] (fault 9 nine ∷ []) (kindIn text .lines (requestIn text))
+    unfolding due faultsOf
+    brief-only-nine =
+        sym (brief-behind family p n v brief-none [] (kindIn text .lines (requestIn text)) (fault 9 nine ∷ [])
+        ∙ (rw (← faults) (after-left [] _ 1 _ _ is-form)))
 
-  not-reducible : not (isIrreducible p) ≡ false
-  unfolding searchFaults polynomialFaults
-  not-reducible = not-there 4 _ (lit≤ tt) (List·Memᴰ·tail (List·Memᴰ·tail (List·Memᴰ·head refl)))
+    brief-is-passed : Passed family p n v
+    brief-is-passed =
+        let passed = brief-passed family p n v brief-none in
+        record { modulus = passed .modulus; order = passed .order; fits = λ a m. not-too-large p a (member-fits p v (passed .large) a m); good = passed .bad }
 
-  right-order : isWrongOrderFor family n ≡ false
-  unfolding searchFaults polynomialFaults
-  right-order = not-there 5 _ (lit≤ tt) (List·Memᴰ·tail (List·Memᴰ·tail (List·Memᴰ·tail (List·Memᴰ·head refl))))
+-- ---- a search
 
-  right-count : isWrongCountFor family n (length v) ≡ false
-  unfolding searchFaults polynomialFaults
-  right-count = not-there 6 _ (lit≤ tt) (List·Memᴰ·tail (List·Memᴰ·tail (List·Memᴰ·tail (List·Memᴰ·tail (List·Memᴰ·head refl)))))
+-- the lightest row over the candidates of a search
+abbrev pub best : Family → List ℕ → Best
+best family text = lightestRow (shapeOf family) (polynomialOf text) (orderOf text) (valuesOf text)
 
-  not-large : someTooLarge p v ≡ false
-  unfolding searchFaults polynomialFaults
-  not-large = not-there 7 _ (lit≤ tt) (List·Memᴰ·tail (List·Memᴰ·tail (List·Memᴰ·tail (List·Memᴰ·tail (List·Memᴰ·tail (List·Memᴰ·head refl))))))
+module _ (family : Family) (text : List ℕ) (w : WellFormedSearch family text) where
+  search-faults : kindIn text .faults (requestIn text)
+      ≡ briefFaults family (polynomialOf text) (orderOf text) (valuesOf text) ++ fault 9 (isNone (best family text)) ∷ []
+  unfolding requestIn search searchFaults
+  search-faults = rw (kind-is-search family text (w .kind-is)) refl
 
-  not-bad : someBad v ≡ false
-  unfolding searchFaults polynomialFaults
-  not-bad =
-      not-there 8 _ (lit≤ tt) (List·Memᴰ·tail (List·Memᴰ·tail (List·Memᴰ·tail (List·Memᴰ·tail (List·Memᴰ·tail (List·Memᴰ·tail (List·Memᴰ·head refl)))))))
+  pub only-nine : due text ≡ answerAfter [] (fault 9 (isNone (best family text)) ∷ []) (bestLines (polynomialOf text) (orderOf text) (best family text))
+  unfolding requestIn search
+  only-nine = brief-only-nine family text _ search-faults (w .faultless) ∙ (rw (kind-is-search family text (w .kind-is)) refl)
 
-  -- only 9 is left
-  pub only-nine : due text ≡ answerAfter [] (fault 9 (isNone (best family text)) ∷ []) (bestLines p n (best family text))
-  unfolding due requestIn search searchFaults polynomialFaults
-  only-nine =
-      rw (search-faults family text (w .kind-is), kind-is-search family text (w .kind-is))
-      (sym (after-left [] _ 8 _ _ not-bad
-      ∙ after-left [] _ 7 _ _ not-large
-      ∙ after-left [] _ 6 _ _ right-count
-      ∙ after-left [] _ 5 _ _ right-order
-      ∙ after-left [] _ 4 _ _ not-reducible
-      ∙ after-left [] _ 3 _ _ not-outside
-      ∙ after-left [] _ 1 _ _ is-form))
+  pub passed : Passed family (polynomialOf text) (orderOf text) (valuesOf text)
+  passed = brief-is-passed family text _ search-faults (w .faultless)
 
-  pub passed : Passed family p n v
-  unfolding polynomialFaults
-  passed =
-      record {
-        modulus = number-modulus p (first-left 3 (isOutside p) _ not-outside ∙ first-left 4 (not (isIrreducible p)) _ not-reducible ∙ first-empty);
-        order = family-order family n right-order;
-        fits = λ a m. not-too-large p a (member-fits p v not-large a m);
-      }
+-- ---- a walk
+
+module _ (text : List ℕ) (w : WellFormedWalk text) where
+  walk-faults : kindIn text .faults (requestIn text)
+      ≡ briefFaults Hadamard (polynomialOf text) (orderOf text) (valuesOf text) ++ fault 9 (walkIn text .finished && isNone (walkIn text .best)) ∷ []
+  unfolding requestIn walk walkFaults
+  walk-faults = rw (kind-is-walk text (w .kind-is)) refl
+
+  pub walk-nine : due text ≡ answerAfter [] (fault 9 (walkIn text .finished && isNone (walkIn text .best)) ∷ []) (walkLinesIn text)
+  unfolding requestIn walk
+  walk-nine = brief-only-nine Hadamard text _ walk-faults (w .faultless) ∙ (rw (kind-is-walk text (w .kind-is)) refl)
+
+  pub walk-passed : Passed Hadamard (polynomialOf text) (orderOf text) (valuesOf text)
+  walk-passed = brief-is-passed Hadamard text _ walk-faults (w .faultless)

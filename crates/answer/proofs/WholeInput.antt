@@ -1,6 +1,6 @@
 -- The first bytes of an input tell what is due to all of it, whatever its length, where they are more than 4,093: no longer text is in form
 -- (`form-most`), and one of 4,093 bytes is (`form-reached`). So the program need not read further (`first-bytes`). Assumes nothing.
-use mathlib.Core.Path.{_≡_, sym, ap, _∙_}
+use mathlib.Core.Path.{_≡_, refl, sym, ap, _∙_}
 use mathlib.Core.Logic.{⊎-elim}
 use mathlib.Core.Bool.{true}
 use mathlib.Core.List.{List, []}
@@ -10,9 +10,10 @@ use lib.ListN.{length, take, replicate, length-replicate}
 use lib.Seq.{take-all, length-take-le}
 use Rattle.refusal.specs.Refusals.{answer}
 use Rattle.algebra.proofs.Sums.{le-or-lt}
-use Rattle.text.specs.Text.{requestText, SixDigits}
-use Rattle.text.specs.Reading.{numberAt, inForm}
+use Rattle.text.specs.Text.{furtherNumbers, requestText, SixDigits}
+use Rattle.text.specs.Reading.{numberAt, kindOf, lineOneLength, inForm}
 use Rattle.text.proofs.Compare.{is-false}
+use Rattle.text.proofs.Lengths.{further-le}
 use Rattle.text.proofs.Form.{form-length, length-rewritten, six-none, six-more}
 use Rattle.text.proofs.Requests.{longest-text, written-read}
 use Rattle.reply.specs.Due.{due}
@@ -24,17 +25,21 @@ use Rattle.answer.proofs.Shown.{shown-most}
 
 -- a text in form has at most 4,093 bytes
 pub form-most : (text : List ℕ) → inForm text ≡ true → length text ≤ 4093
-form-most text e = whole (numberAt text 18) (length text) (ap length (form-length text e .1) ∙ length-rewritten text) (form-length text e .0)
+unfolding lineOneLength
+form-most text e =
+    whole (furtherNumbers (kindOf text)) (numberAt text 18) (length text) (further-le (kindOf text))
+    (ap length (form-length text e .1) ∙ length-rewritten text) (form-length text e .0)
   where
-    whole : (count long : ℕ) → long ≡ 25 + 6 * count + (count + 15) / 16 → long ≤ 4096 → long ≤ 4093
-    whole count long e h = let few : count ≤ 671 = omega arith in omega arith
+    whole : (further count long : ℕ) → further ≤ 1 → long ≡ 25 + 6 * further + 6 * count + (count + 15) / 16 → long ≤ 4096 → long ≤ 4093
+    whole zero count long f e h = let few : count ≤ 671 = omega arith in omega arith
+    whole (suc n) count long f e h = let few : count ≤ 670 = omega arith in omega arith
 
 -- and each of 671 values has as many
 form-of : (values : List ℕ) → length values ≡ 671 → SixDigits values → (text : List ℕ) × (inForm text ≡ true) × (length text ≡ 4093)
 form-of values count six =
     let long = longest-text 0 0 0 values count in
     let line = six-more _ zero-le (six-more _ zero-le (six-more _ zero-le (six-more {v = length values} values (omega arith) six))) in
-    (requestText 0 0 0 values, written-read 0 0 0 values line (omega arith) .0, long)
+    (requestText 0 0 0 [] values, written-read 0 0 0 [] values (unfold furtherNumbers in refl) line (omega arith) .0, long)
 
 six-zeros : (n : ℕ) → SixDigits (replicate n 0)
 six-zeros zero = six-none

@@ -1,5 +1,5 @@
--- What document 01 says of the numbers 1 to 8 under "Who can cause a refusal", of a request text, kind by kind; kinds 4 and 5 by document 02,
--- Two and Six.
+-- What document 01 says of the numbers 1 to 8 under "Who can cause a refusal", of a request text, kind by kind; kinds 4, 5 and 6 by document 02,
+-- Two, Six and Seven.
 -- Assumes nothing.
 use mathlib.Core.Path.{_≡_}
 use mathlib.Core.Logic.{_≢_, _⊎_}
@@ -8,6 +8,7 @@ use Prim.Native.Nat.{ℕ, _*_, _<_}
 use lib.ListN.{length}
 use Rattle.field.specs.Stated.{Stated}
 use Rattle.rows.specs.declared.Family.{Family}
+use Rattle.rows.specs.declared.Family.the-variants.{Hadamard}
 use Rattle.search.specs.Stated.{StatedFor}
 use Rattle.text.specs.Text.{InForm}
 use Rattle.text.specs.Reading.{kindOf, polynomialOf, orderOf, valuesOf}
@@ -28,14 +29,16 @@ pub data SurveyStated (m order : ℕ) (values : List ℕ) : ℕ → Type 0 where
 
 -- the numbers of line one and the values
 pub data RequestStated (kind polynomial order : ℕ) (values : List ℕ) : ℕ → Type 0 where
-  -- 2: kind not 1, 2, 3, 4 or 5
-  no-kind : kind ≢ 1 → kind ≢ 2 → kind ≢ 3 → kind ≢ 4 → kind ≢ 5 → RequestStated kind polynomial order values 2
+  -- 2: kind not 1, 2, 3, 4, 5 or 6
+  no-kind : kind ≢ 1 → kind ≢ 2 → kind ≢ 3 → kind ≢ 4 → kind ≢ 5 → kind ≢ 6 → RequestStated kind polynomial order values 2
   -- 3 to 8, by the kind; kinds 1 and 5 are searches
   of-search : {k : ℕ} (family : Family) → kind ≡ searchNumber family → StatedFor family polynomial order values k → RequestStated kind polynomial order values k
   of-check : {k : ℕ} → kind ≡ 2 → CheckStated polynomial order values k → RequestStated kind polynomial order values k
   of-survey : {k : ℕ} → kind ≡ 3 → SurveyStated polynomial order values k → RequestStated kind polynomial order values k
   -- kind 4: 3 to 7 read it as kind 2
   of-gates : {k : ℕ} → kind ≡ 4 → CheckStated polynomial order values k → RequestStated kind polynomial order values k
+  -- kind 6: 3 to 8 read it as kind 1
+  of-walk : {k : ℕ} → kind ≡ 6 → StatedFor Hadamard polynomial order values k → RequestStated kind polynomial order values k
 
 -- a text
 pub data StatedOf (text : List ℕ) : ℕ → Type 0 where

@@ -1,6 +1,7 @@
 -- The reference lines of document 01 that are marked P, as one table, with the limits of its last point, its example of a search,
 -- whole, the gate lists of request Two, surveys in the order of request Three, the depths of request Four, the steps of request Five,
--- the circulant searches of request Six, and lines that tell apart what the others cannot. Assumes nothing.
+-- the circulant searches of request Six, line one by the kind and the walks of request Seven, and lines that tell apart what the others cannot.
+-- Assumes nothing.
 use mathlib.Core.Path.{_≡_}
 use mathlib.Core.Logic.{_≢_}
 use mathlib.Core.List.{List, [], _∷_, _++_, map, foldl}
@@ -53,12 +54,16 @@ pub data ReferenceLine : Type 0 where
   evaluations : ℕ → ℕ → List ℕ → List ℕ → List ℕ → ReferenceLine
   -- to the request of this kind, polynomial, order and values this is due
   requests : ℕ → ℕ → ℕ → List ℕ → Answer (List (List ℕ)) → ReferenceLine
+  -- to the walk with this polynomial, order, candidates and budget this is due
+  walks : ℕ → ℕ → List ℕ → ℕ → Answer (List (List ℕ)) → ReferenceLine
   -- such a request is not refused with this number
   not-given : ℕ → ℕ → ℕ → List ℕ → ℕ → ReferenceLine
   -- a library call that has these faults is refused with this number; 0: it is accepted
   calls : List Fault → ℕ → ReferenceLine
   -- to the request text of these lines, byte by byte, the text of these lines is due
   texts : List String → List String → ReferenceLine
+  -- the request text of these lines, byte by byte, is not refused with this number
+  not-refused : List String → ℕ → ReferenceLine
 
 unfoldable pub power : ℕ → ℕ → ℕ → ℕ
 power p a zero = 1
@@ -84,10 +89,12 @@ ReferenceSays (output-ones p a numbers) = tabulate (degree p) (onesInLine p a) �
 ReferenceSays (depths numbers results) = map depthOf numbers ≡ results
 ReferenceSays (row-depths p n row d) = depthOfRow p n row ≡ d
 ReferenceSays (evaluations p n entries bits result) = evaluate (gatesOfMatrix p n (entriesOf n entries)) (carriersOfMatrix p n (entriesOf n entries)) bits ≡ result
-ReferenceSays (requests kind polynomial order values d) = due (requestText kind polynomial order values) ≡ d
-ReferenceSays (not-given kind polynomial order values number) = due (requestText kind polynomial order values) .number ≢ number
+ReferenceSays (requests kind polynomial order values d) = due (requestText kind polynomial order [] values) ≡ d
+ReferenceSays (walks polynomial order candidates budget d) = due (requestText 6 polynomial order (budget ∷ []) candidates) ≡ d
+ReferenceSays (not-given kind polynomial order values number) = due (requestText kind polynomial order [] values) .number ≢ number
 ReferenceSays (calls faults number) = firstNumber faults ≡ number
 ReferenceSays (texts request reply) = textOf (due (bytesOf request) .number) (due (bytesOf request) .value) ≡ bytesOf reply
+ReferenceSays (not-refused request number) = due (bytesOf request) .number ≢ number
 
 infixr 60 _and_
 -- every line of a table holds
@@ -245,6 +252,49 @@ circulantTexts =
     ("     0    14    38   152" ∷ "     1     1     2     3" ∷ []) ∷
     []
 
+-- line one by the kind (document 02, Seven): kind 6 without a budget, other kinds with one; kind 6 with one has the form
+unfoldable pub lineOneTexts : List ReferenceLine
+lineOneTexts =
+    texts ("     6    19     4     4" ∷ "     1     4     9    13" ∷ []) ("     1" ∷ []) ∷
+    texts ("     1    19     4     4     0" ∷ "     1     4     9    13" ∷ []) ("     1" ∷ []) ∷
+    texts ("     9    19     4     4     0" ∷ "     1     4     9    13" ∷ []) ("     1" ∷ []) ∷
+    not-refused ("     6    19     4     4999999" ∷ "     1     4     9    13" ∷ []) 1 ∷
+    []
+
+-- walks (document 02, Seven) over 19, order 4: the first row of 1 4 9 13, all of its 24, none; all but the last row of 1 2 4 8, and all; fewer
+-- candidates than the order; all fifteen. A candidate before the four with the least counts. Over 31 rows of the same count, the deeper one tried
+-- first, in dictionary order whatever the order of the candidates; the budget that all rows need. The refusals of a search of kind 1
+unfoldable pub budgetLines : List ReferenceLine
+budgetLines =
+    walks 19 4 (1 ∷ 4 ∷ 9 ∷ 13 ∷ []) 1 (answer 0 ((0 ∷ 0 ∷ 1 ∷ 18 ∷ 18 ∷ []) ∷ (1 ∷ 4 ∷ 9 ∷ 13 ∷ []) ∷ [])) ∷
+    walks 19 4 (1 ∷ 4 ∷ 9 ∷ 13 ∷ []) 24 (answer 0 ((0 ∷ 1 ∷ 24 ∷ 18 ∷ 18 ∷ []) ∷ (1 ∷ 4 ∷ 9 ∷ 13 ∷ []) ∷ [])) ∷
+    walks 19 4 (1 ∷ 4 ∷ 9 ∷ 13 ∷ []) 0 (answer 0 ((0 ∷ 0 ∷ 0 ∷ 999999 ∷ 18 ∷ []) ∷ (0 ∷ 0 ∷ 0 ∷ 0 ∷ []) ∷ [])) ∷
+    walks 19 4 (1 ∷ 2 ∷ 4 ∷ 8 ∷ []) 23 (answer 0 ((0 ∷ 0 ∷ 23 ∷ 999999 ∷ 18 ∷ []) ∷ (0 ∷ 0 ∷ 0 ∷ 0 ∷ []) ∷ [])) ∷
+    walks 19 4 (1 ∷ 2 ∷ 4 ∷ 8 ∷ []) 24 (answer 9 []) ∷
+    walks 19 4 (1 ∷ 4 ∷ 9 ∷ []) 0 (answer 9 []) ∷
+    walks 19 4 (tabulate 15 suc) 999999 (answer 0 ((0 ∷ 1 ∷ 32760 ∷ 18 ∷ 16 ∷ []) ∷ (1 ∷ 4 ∷ 9 ∷ 13 ∷ []) ∷ [])) ∷
+    walks 19 4 (3 ∷ 1 ∷ 4 ∷ 9 ∷ 13 ∷ []) 0 (answer 0 ((0 ∷ 0 ∷ 0 ∷ 999999 ∷ 18 ∷ []) ∷ (0 ∷ 0 ∷ 0 ∷ 0 ∷ []) ∷ [])) ∷
+    walks 31 4 (15 ∷ 1 ∷ 13 ∷ 2 ∷ 4 ∷ 6 ∷ []) 8 (answer 0 ((0 ∷ 0 ∷ 8 ∷ 24 ∷ 21 ∷ []) ∷ (1 ∷ 2 ∷ 4 ∷ 6 ∷ []) ∷ [])) ∷
+    walks 31 4 (15 ∷ 1 ∷ 13 ∷ 2 ∷ 4 ∷ 6 ∷ []) 9 (answer 0 ((0 ∷ 0 ∷ 9 ∷ 24 ∷ 21 ∷ []) ∷ (1 ∷ 2 ∷ 13 ∷ 15 ∷ []) ∷ [])) ∷
+    walks 31 4 (tabulate 15 suc) 32760 (answer 0 ((0 ∷ 1 ∷ 32760 ∷ 24 ∷ 21 ∷ []) ∷ (1 ∷ 2 ∷ 13 ∷ 15 ∷ []) ∷ [])) ∷
+    walks 3 4 (1 ∷ []) 1 (answer 3 []) ∷
+    walks 5 4 (1 ∷ []) 1 (answer 4 []) ∷
+    walks 7 2 (2 ∷ 3 ∷ []) 1 (answer 5 []) ∷
+    walks 7 4 [] 1 (answer 6 []) ∷
+    walks 37 8 (tabulate 17 suc) 1 (answer 6 []) ∷
+    walks 7 4 (4 ∷ []) 1 (answer 7 []) ∷
+    walks 7 4 (0 ∷ []) 1 (answer 8 []) ∷
+    walks 7 4 (2 ∷ 2 ∷ []) 1 (answer 8 []) ∷
+    []
+
+-- a walk, request text and answer text
+unfoldable pub budgetTexts : List ReferenceLine
+budgetTexts =
+    texts
+    ("     6    19     4     4     1" ∷ "     1     4     9    13" ∷ [])
+    ("     0     0     1    18    18" ∷ "     1     4     9    13" ∷ []) ∷
+    []
+
 -- library calls over 19: the inverse of 0; determinants up to size 8; halved products of order 2, 4 or 8
 unfoldable pub refusals : List ReferenceLine
 refusals =
@@ -288,4 +338,4 @@ example =
 
 -- the table
 unfoldable pub referenceLines : List ReferenceLine
-referenceLines = elementLines ++ productSteps ++ searches ++ depthLines ++ checks ++ surveys ++ surveyTexts ++ gateLists ++ gateTexts ++ circulantLines ++ circulantTexts ++ refusals ++ limits ++ example
+referenceLines = elementLines ++ productSteps ++ searches ++ depthLines ++ checks ++ surveys ++ surveyTexts ++ gateLists ++ gateTexts ++ circulantLines ++ circulantTexts ++ lineOneTexts ++ budgetLines ++ budgetTexts ++ refusals ++ limits ++ example

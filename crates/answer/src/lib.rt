@@ -1,7 +1,8 @@
 // One request text to one answer text.
 
+ghost use Prim.Native.Nat.{_≤_};
 ghost use Rattle.text.specs.Reading.{valuesFrom};
-ghost use Rattle.reply.specs.Due.{request, kinds, kindAmong, dueTo};
+ghost use Rattle.reply.specs.Due.{requestWith, kinds, kindAmong, dueTo};
 ghost use Rattle.reply.specs.Answered.{Replied, Answered};
 use refusal::Refusal;
 use reply::Reply;
@@ -15,8 +16,10 @@ fn answer_kind(
     polynomial: u32,
     order: u32,
     count: u32,
+    budget: u32,
 ) -> Reply
-    ensures { λ r. ⌜ Replied (dueTo (kindAmong kinds kind) (request polynomial order (valuesFrom (now (part .entry)) 0 count)))
+    requires { ⌜ budget ≤ 999999 ⌝ }
+    ensures { λ r. ⌜ Replied (dueTo (kindAmong kinds kind) (requestWith polynomial order budget (valuesFrom (now (part .entry)) 0 count)))
         (now (space .entry)) (now (space .exit)) (r .number) (r .length) ⌝ }
 {
     match kind {
@@ -30,6 +33,7 @@ fn answer_kind(
         ),
         2 | 4 => answer_matrix::of_matrix(part, space, polynomial, order, count, kind == 4),
         3 => answer_survey::survey(part, space, polynomial, order, count),
+        6 => answer_row::walk_row(part, space, polynomial, order, count, budget),
         _ => refuse(space, Refusal::Kind),
     }
 }
@@ -45,13 +49,15 @@ pub fn answer(request: &[u8], space: &mut [u8]) -> Reply
             polynomial,
             order,
             count,
+            budget,
         } => answer_kind(
-            &request[text::LINE_ONE..],
+            &request[text::line_one_length(kind)..],
             space,
             kind,
             polynomial,
             order,
             count,
+            budget,
         ),
     }
 }

@@ -23,10 +23,10 @@ use Rattle.text.specs.Reading.{valueAt, valuesFrom}
 use Rattle.text.proofs.Lengths.{length-line}
 use Rattle.text.proofs.Places.{Rest, rest-start, rest-step, rest-end}
 use Rattle.text.proofs.Answers.{answer-append}
-use Rattle.reply.specs.Due.{entriesOf, check, gates, gateLine, carrierLine, gateLines, kinds, kindAmong}
+use Rattle.reply.specs.Due.{entriesOf, check, gates, gateLine, carrierLine, gateLines, kinds, kindAmong, dueTo}
 use Rattle.answer_matrix.specs.Steps.Asked.{matrixLines, matrixKind}
 use Rattle.answer_matrix.specs.Steps.Outputs.{outputText, outputTexts}
-use Rattle.reply.proofs.DueFrom.{kind-check, kind-gates}
+use Rattle.reply.proofs.DueFrom.{kind-check, kind-gates, BudgetUnseen}
 use Rattle.reply.proofs.Values.{entries-read, check-read}
 
 -- ---- the kinds that ask about a matrix
@@ -44,6 +44,11 @@ pub asked-kind : (kind : ℕ) → (kind ≡ 2) ⊎ (kind ≡ 4) → matrixKind (
 asked-kind kind h =
     ⊎-elim (λ (e : kind ≡ 2). ap matrixKind (ne-eqb kind 4 (λ q. omega arith)) ∙ asked-check ∙ kind-check kind e)
     (λ (e : kind ≡ 4). ap matrixKind (eq-eqb kind 4 e) ∙ asked-gates ∙ kind-gates kind e) h
+
+-- neither looks at a budget
+pub matrix-unseen : (gates : Bool) → BudgetUnseen (matrixKind gates)
+unfolding dueTo matrixKind
+matrix-unseen gates p n budget values = refl
 
 -- ---- the gates of an output bit, one by one
 

@@ -11,14 +11,14 @@ use native.Mathlib.Decide.{decLt}
 use borrow.Author.Tests.{lt-ltb}
 use lib.ListN.{getD, length, take, set, replicate, length-take, List·getD-eq-default}
 use lib.Seq.{take-at, getD-take, ext-getD}
-use Rattle.refusal.specs.Refusals.{numberOf, Fault, fault, firstNumber, Answer, answer}
+use Rattle.refusal.specs.Refusals.{numberOf, Fault, fault, firstNumber, Answer, answer, answerAfter}
 use Rattle.refusal.specs.declared.Refusal.{Refusal}
 use Rattle.refusal.specs.declared.Outcome.the-variants.{Value, Refused}
 use Rattle.refusal.proofs.Faults.{numbered, number-not-zero, first-passed, after-none, after-number, after-number-is, first-parts, first-behind}
 use Rattle.algebra.proofs.Words.{stored-more}
 use Rattle.field.specs.Polynomial.{Modulus, degree}
 use Rattle.field.specs.Faults.{polynomialFaults}
-use Rattle.field.proofs.Calls.{modulus-parts, elements-most}
+use Rattle.field.proofs.Calls.{elements-most}
 use Rattle.lines.specs.Counts.{elementCount, additionCount, rowCount}
 use Rattle.lines.proofs.Tallies.{elementCount-le}
 use Rattle.rows.specs.declared.Family.{Family}
@@ -31,9 +31,9 @@ use Rattle.rows.proofs.Rows.{mem-rows, sorted-rows, getD-mem}
 use Rattle.rows.proofs.Lightest.{row-sorted}
 use Rattle.cuts.proofs.Families.{family-most, family-least}
 use Rattle.rows.specs.Candidates.{someTooLarge, someBad}
-use Rattle.search.specs.Answer.{isWrongOrderFor, isWrongCountFor, isNone, searchFaults, RowFound, noRow, rowFound, searchAnswer, saysOutcome}
+use Rattle.search.specs.Answer.{isWrongOrderFor, isWrongCountFor, briefFaults, isNone, searchFaults, RowFound, noRow, rowFound, searchAnswer, saysOutcome}
 use Rattle.lightest.proofs.LetterCounts.{member-nonzero}
-use Rattle.search.proofs.Refusals.{order-of, family-order, count-four, count-eight, circulant-count-other}
+use Rattle.search.proofs.Refusals.{order-of, brief-passed, brief-parts, count-four, count-eight, circulant-count-other}
 use Rattle.text.specs.Text.{SixDigits}
 use Rattle.text.proofs.Form.{six-none, six-more}
 use Rattle.text.specs.Reading.{valueAt, valuesFrom}
@@ -71,10 +71,10 @@ many-wrong Circulant n count e h = sym (circulant-count-other count (λ z. omega
 many : Family → ℕ → ℕ → ℕ
 many family p n = firstNumber (polynomialFaults p ++ manyFaults family n)
 
-many-first : (family : Family) (p n : ℕ) (values : List ℕ) → 255 < length values → firstNumber (searchFaults family p n values (lightestRow (shapeOf family) p n values)) ≡ many family p n
-unfolding searchFaults polynomialFaults firstNumber many
-many-first family p n values h =
-    let behind = fault 7 (someTooLarge p values) ∷ fault 8 (someBad values) ∷ fault 9 (isNone (lightestRow (shapeOf family) p n values)) ∷ [] in
+many-first : (family : Family) (p n : ℕ) (values : List ℕ) (more : List Fault) → 255 < length values → firstNumber (briefFaults family p n values ++ more) ≡ many family p n
+unfolding polynomialFaults firstNumber many
+many-first family p n values more h =
+    let behind = fault 7 (someTooLarge p values) ∷ fault 8 (someBad values) ∷ more in
     first-behind (polynomialFaults p) (fault 5 (isWrongOrderFor family n) ∷ fault 6 (isWrongCountFor family n (length values)) ∷ behind) (manyFaults family n)
     (go (isWrongOrderFor family n) refl (firstNumber behind))
   where
@@ -90,17 +90,26 @@ many-told family p n e = go (isWrongOrderFor family n) (first-parts (polynomialF
     go true f = omega arith
     go false f = omega arith
 
-many-due : (family : Family) (p n : ℕ) (values : List ℕ) → 255 < length values → answer (many family p n) [] ≡ dueTo (search family) (request p n values)
-unfolding dueTo search
-many-due family p n values h = after-number [] _ (searchFaults family p n values (lightestRow (shapeOf family) p n values)) (many family p n) (many-first family p n values h) (many-told family p n)
+-- so what is due to the first 256 values of a brief is due to all
+module _ (family : Family) (p n : ℕ) (more : List ℕ → List Fault) (lines : List ℕ → List (List ℕ)) where
+  abbrev dueOf : List ℕ → Answer (List (List ℕ))
+  dueOf values = answerAfter [] (briefFaults family p n values ++ more values) (lines values)
+
+  many-due : (values : List ℕ) → 255 < length values → answer (many family p n) [] ≡ dueOf values
+  many-due values h = after-number [] _ (briefFaults family p n values ++ more values) (many family p n) (many-first family p n values (more values) h) (many-told family p n)
+
+  pub brief-kept : (s : List ℕ) (count : ℕ) → dueOf (valuesFrom s 0 (min count 256)) ≡ dueOf (valuesFrom s 0 count)
+  brief-kept s count = elim (decLt count 256) [
+    | yes h ↦ ap (λ (k : ℕ). dueOf (valuesFrom s 0 k)) (omega arith)
+    | no h ↦
+        sym (many-due (valuesFrom s 0 (min count 256)) (omega (arith, h, length-valuesFrom s 0 (min count 256))))
+        ∙ many-due (valuesFrom s 0 count) (omega (arith, h, length-valuesFrom s 0 count))
+  ]
 
 pub search-kept : (family : Family) (p n : ℕ) (s : List ℕ) (count : ℕ) → dueTo (search family) (request p n (valuesFrom s 0 (min count 256))) ≡ dueTo (search family) (request p n (valuesFrom s 0 count))
-search-kept family p n s count = elim (decLt count 256) [
-  | yes h ↦ ap (λ (k : ℕ). dueTo (search family) (request p n (valuesFrom s 0 k))) (omega arith)
-  | no h ↦
-      sym (many-due family p n (valuesFrom s 0 (min count 256)) (omega (arith, h, length-valuesFrom s 0 (min count 256))))
-      ∙ many-due family p n (valuesFrom s 0 count) (omega (arith, h, length-valuesFrom s 0 count))
-]
+unfolding dueTo search searchFaults
+search-kept family p n s count =
+    brief-kept family p n (λ values. fault 9 (isNone (lightestRow (shapeOf family) p n values)) ∷ []) (λ values. bestLines p n (lightestRow (shapeOf family) p n values)) s count
 
 -- ---- an accepted search
 
@@ -120,7 +129,7 @@ row-there nothing e = absurd (true≢false e)
 row-there (found row) e = (row, refl)
 
 -- every entry of a row is bounded where its members are
-small-entries : (b : ℕ) (row : List ℕ) → ((a : ℕ) → List·Memᴰ a row → a ≤ b) → (i : ℕ) → getD row i 0 ≤ b
+pub small-entries : (b : ℕ) (row : List ℕ) → ((a : ℕ) → List·Memᴰ a row → a ≤ b) → (i : ℕ) → getD row i 0 ≤ b
 small-entries b [] h i = zero-le
 small-entries b (x ∷ row) h zero = h x (List·Memᴰ·head refl)
 small-entries b (x ∷ row) h (suc i) = small-entries b row (λ a m. h a (List·Memᴰ·tail m)) i
@@ -134,13 +143,12 @@ found-over family p n values row e = mem-rows (2 ^ degree p) values n row .0 (ro
 pub search-accepted : (family : Family) (p n : ℕ) (values : List ℕ) → firstNumber (searchFaults family p n values (lightestRow (shapeOf family) p n values)) ≡ 0 → Accepted family p n values
 unfolding searchFaults polynomialFaults
 search-accepted family p n values e =
-    let (modulus, e₄) = modulus-parts p _ e in
-    let (order, e₅) = first-passed 5 0 (isWrongOrderFor family n) _ (λ h. omega arith) e₄ in
-    let (count, e₆) = first-passed 6 0 (isWrongCountFor family n (length values)) _ (λ h. omega arith) e₅ in
-    let (large, e₇) = first-passed 7 0 (someTooLarge p values) _ (λ h. omega arith) e₆ in
-    let (bad, e₈) = first-passed 8 0 (someBad values) _ (λ h. omega arith) e₇ in
-    let (none, e₉) = first-passed 9 0 (isNone (lightestRow (shapeOf family) p n values)) [] (λ h. omega arith) e₈ in
-    let orders = family-order family n order in
+    let (brief, nine) = brief-parts family p n values _ e in
+    let passed = brief-passed family p n values brief in
+    let (none, e₉) = first-passed 9 0 (isNone (lightestRow (shapeOf family) p n values)) [] (λ h. omega arith) nine in
+    let modulus = passed .modulus in
+    let orders = passed .order in
+    let bad = passed .bad in
     let there = row-there (lightestRow (shapeOf family) p n values) none in
     let row = found-over family p n values (there .0) (there .1) in
     record {

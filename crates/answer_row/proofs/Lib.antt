@@ -1,2 +1,3 @@
--- Laws of a row that is found.
+-- Laws of a row that is found, and of a walk.
 pub mod Found
+pub mod Walked

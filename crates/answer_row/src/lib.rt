@@ -1,7 +1,7 @@
-// Kinds 1 and 5: the lightest row.
+// Kinds 1 and 5: the lightest row. Kind 6: the best row of a walk.
 
 ghost use mathlib.Core.Path.{_≡_};
-ghost use mathlib.Core.List.{_++_};
+ghost use mathlib.Core.List.{[], _∷_, _++_};
 ghost use mathlib.Core.Logic.{_⊎_};
 ghost use Prim.Native.Nat.{_-_, _≤_, min};
 ghost use lib.ListN.{take, replicate};
@@ -10,13 +10,14 @@ ghost use Rattle.field.specs.Polynomial.{Modulus};
 ghost use Rattle.rows.specs.Keys.{sumOf};
 ghost use Rattle.text.specs.Text.{SixDigits};
 ghost use Rattle.text.specs.Reading.{valuesFrom};
-ghost use Rattle.reply.specs.Due.{request, searchNumber, rowLines, search, dueTo};
+ghost use Rattle.reply.specs.Due.{request, requestWith, searchNumber, rowLines, search, walk, dueTo};
 ghost use Rattle.reply.specs.Answered.{Replied};
 use refusal::Outcome;
 use reply::Reply;
 use reply::put_answers;
 use reply::refuse;
 use rows::Family;
+use walk::WalkResult;
 
 // At most 256: one more than a search takes.
 fn at_most(count: u32) -> usize
@@ -94,5 +95,36 @@ pub fn search_row(
     match outcome {
         Outcome::Refused(reason) => refuse(space, reason),
         Outcome::Value(sum) => put_row(space, p as u16, n as usize, sum, row),
+    }
+}
+
+// Writes what a walk answers, if it fits: its numbers, and the best row.
+fn put_walk(space: &mut [u8], n: usize, finished: u32, told: WalkResult) -> Reply
+    requires { ⌜ (n ≤ 8) × SixDigits (0 ∷ finished ∷ told .tried ∷ told .count ∷ told .bound ∷ []) ⌝ }
+    ensures { λ r. ⌜ Replied (answer 0 ((0 ∷ finished ∷ told .tried ∷ told .count ∷ told .bound ∷ []) ∷ take n (told .row) ∷ []))
+        (now (space .entry)) (now (space .exit)) (r .number) (r .length) ⌝ }
+{
+    let row = told.row;
+    let tried = told.tried as u32;
+    let entries = widened(row);
+    put_answers(
+        space,
+        &[0, finished, tried, told.count, told.bound],
+        &entries[..n],
+    )
+}
+
+// The walk of a budget over the candidates, which stand in the part of a request text that follows line one.
+pub fn walk_row(part: &[u8], space: &mut [u8], p: u32, n: u32, count: u32, budget: u32) -> Reply
+    requires { ⌜ budget ≤ 999999 ⌝ }
+    ensures { λ r. ⌜ Replied (dueTo walk (requestWith p n budget (valuesFrom (now (part .entry)) 0 count))) (now (space .entry)) (now (space .exit)) (r .number) (r .length) ⌝ }
+{
+    let kept = at_most(count);
+    let values = read_values(part, kept);
+    let told = walk::best_yet(p, n, &values[..kept], budget as u64);
+    let outcome = told.outcome;
+    match outcome {
+        Outcome::Refused(reason) => refuse(space, reason),
+        Outcome::Value(finished) => put_walk(space, n as usize, finished, told),
     }
 }

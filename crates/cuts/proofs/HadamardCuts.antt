@@ -88,7 +88,7 @@ pub place-inside : (d : ℕ) → (d ≡ 0 → ⊥) → d < 8 → placeBefore d <
 place-inside d e l = omega (arith, place-lt d (pos-of-ne-zero e) l)
 
 -- an entry is a member of the prefix
-member-at : (row : List ℕ) (d a : ℕ) → d ≤ length row → (i : ℕ) → i < d → getD row i 0 ≡ a → member a (take d row) ≡ true
+pub member-at : (row : List ℕ) (d a : ℕ) → d ≤ length row → (i : ℕ) → i < d → getD row i 0 ≡ a → member a (take d row) ≡ true
 member-at row d a fits i h e =
     let there : List·Memᴰ (getD (take d row) i 0) (take d row) = getD-mem (take d row) i 0 (omega (arith, length-take-le d row fits)) in
     member-mem a (take d row) .1 (subst (λ (x : ℕ). List·Memᴰ x (take d row)) (getD-take d row i 0 h ∙ e) there)
@@ -287,14 +287,19 @@ module _ (p n : ℕ) (h : Modulus p) (o : SearchOrder n) (r : List ℕ) (long : 
       rw (canonical-passes (and-left (canonical n r) (isGood hadamardShape p n r) e) g) g)
       (λ t. rw (tried-canonical t) (and-right (passes (hadamardCuts p n) n r) (isGood hadamardShape p n r) t))
 
--- the lightest row is the lightest of those that are tried
+-- of words over the candidates, the lightest of the canonical ones is the lightest of those that are tried
+pub tried-among : (p n : ℕ) → Modulus p → SearchOrder n → (cs : List ℕ) (rows : List (List ℕ))
+    → ((r : List ℕ) → List·Memᴰ r rows → List·Memᴰ r (words (ascending (2 ^ degree p) cs) n))
+    → lightest (λ r. canonical n r && isGood hadamardShape p n r) (keyOf p n) rows ≡ lightest (tried (hadamardCuts p n) p n) (keyOf p n) rows
+unfolding lightest
+tried-among p n h o cs rows isWord =
+    same-good _ _ (keyOf p n) nothing rows λ r m.
+    tried-same p n h o r (mem-words (ascending (2 ^ degree p) cs) n r .0 (isWord r m) .0) (word-in-field p n cs r (isWord r m))
+
+-- so of all of them
 pub tried-rows : (p n : ℕ) → Modulus p → SearchOrder n → (cs : List ℕ)
     → lightestRow hadamardShape p n cs ≡ lightest (tried (hadamardCuts p n) p n) (keyOf p n) (words (ascending (2 ^ degree p) cs) n)
-unfolding lightest
-tried-rows p n h o cs =
-    canonical-lightest p n h o cs
-    ∙ same-good _ _ (keyOf p n) nothing (words (ascending (2 ^ degree p) cs) n)
-    (λ r m. tried-same p n h o r (mem-words (ascending (2 ^ degree p) cs) n r .0 m .0) (word-in-field p n cs r m))
+tried-rows p n h o cs = canonical-lightest p n h o cs ∙ tried-among p n h o cs (words (ascending (2 ^ degree p) cs) n) (λ r m. m)
 
 -- ---- a whole row
 

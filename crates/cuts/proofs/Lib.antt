@@ -2,5 +2,6 @@
 pub mod Pruning
 pub mod PlaneCuts
 pub mod HadamardCuts
+pub mod WalkCuts
 pub mod CirculantCuts
 pub mod Families

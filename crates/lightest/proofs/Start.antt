@@ -55,7 +55,7 @@ module _ (p n : ℕ) (h : Modulus p) (cs : List ℕ) (fits : someTooLarge p cs �
       (λ e. member-mem a cs .1 (mem-ascending (2 ^ degree p) cs a .0 (member-mem a letters .0 e) .0))
 
   -- and the same table
-  table-same : countTable p cs ≡ countTable p letters
+  pub table-same : countTable p cs ≡ countTable p letters
   unfolding countTable countIn
   table-same = tabulate-cong 256 _ _ (λ a l. ap (λ t. cond t (xorCount p a) 255) (member-same a))
 

@@ -108,7 +108,7 @@ pub fn line_figure(
 }
 
 // The larger of two numbers.
-fn larger(a: u8, b: u8) -> u8
+pub fn larger(a: u8, b: u8) -> u8
     ensures { λ r. ⌜ r ≡ max a b ⌝ }
 {
     if a < b { b } else { a }

@@ -19,17 +19,24 @@ use Rattle.rows.specs.Shape.{shapeOf}
 use Rattle.rows.specs.Keys.{sumOf, lightestRow}
 use Rattle.rows.specs.Demands.{countOfRow}
 use Rattle.rows.specs.Candidates.{someTooLarge}
+use Rattle.rows.specs.Walks.{Walked, walkOf, lowerBound}
 use Rattle.search.specs.Answer.{searchFaults}
-use Rattle.text.specs.Reading.{inForm, kindOf, polynomialOf, orderOf, valuesOf}
+use Rattle.walk.specs.Answer.{walkFaults, bestCount, bestRow}
+use Rattle.text.specs.Reading.{inForm, kindOf, polynomialOf, orderOf, budgetOf, valuesOf}
 
--- a request: the second and the third number of line one, and the values
+-- a request: the second, the third and the fifth number of line one, and the values; budget 0 where there is no fifth number
 pub record Request : Type 0 where
   pub polynomial : ℕ
   pub order : ℕ
+  pub budget : ℕ
   pub values : List ℕ
 
+abbrev pub requestWith : ℕ → ℕ → ℕ → List ℕ → Request
+requestWith polynomial order budget values = record { polynomial = polynomial; order = order; budget = budget; values = values }
+
+-- a request without a budget
 abbrev pub request : ℕ → ℕ → List ℕ → Request
-request polynomial order values = record { polynomial = polynomial; order = order; values = values }
+request polynomial order values = requestWith polynomial order 0 values
 
 -- a kind: its number, its faults, and the numbers of its answer, line by line
 pub record Kind : Type 0 where
@@ -130,11 +137,26 @@ gates =
       lines = λ r. gateLines (r .polynomial) (r .order) (entriesOf (r .order) (r .values));
     }
 
+-- ---- kind 6, walk: kind 1 with a budget
+
+-- line one: 0, finished (1 or 0), rows tried, best row count or 999999 if none yet, the bound; line two: the best row, or zeros
+unfoldable pub walkLines : ℕ → ℕ → List ℕ → Walked → List (List ℕ)
+walkLines p n candidates w =
+    (0 ∷ cond (w .finished) 1 0 ∷ w .rowsTried ∷ bestCount p n (w .best) ∷ lowerBound p n candidates ∷ []) ∷ bestRow n (w .best) ∷ []
+
+unfoldable pub walk : Kind
+walk =
+    record {
+      number = 6;
+      faults = λ r. walkFaults (r .polynomial) (r .order) (r .values) (walkOf (r .polynomial) (r .order) (r .values) (r .budget));
+      lines = λ r. walkLines (r .polynomial) (r .order) (r .values) (walkOf (r .polynomial) (r .order) (r .values) (r .budget));
+    }
+
 -- ---- the request text
 
 -- the kinds
 unfoldable pub kinds : List Kind
-kinds = search Hadamard ∷ check ∷ survey ∷ gates ∷ search Circulant ∷ []
+kinds = search Hadamard ∷ check ∷ survey ∷ gates ∷ search Circulant ∷ walk ∷ []
 
 -- the kind of a number; to a number that no kind has, 2 applies
 unfoldable pub kindAmong : List Kind → ℕ → Kind
@@ -150,7 +172,7 @@ unfoldable pub kindIn : List ℕ → Kind
 kindIn text = kindAmong kinds (kindOf text)
 
 unfoldable pub requestIn : List ℕ → Request
-requestIn text = request (polynomialOf text) (orderOf text) (valuesOf text)
+requestIn text = requestWith (polynomialOf text) (orderOf text) (budgetOf text) (valuesOf text)
 
 -- the faults of a text: 1 where it is not of the form, then those of its kind
 unfoldable pub faultsOf : List ℕ → List Fault

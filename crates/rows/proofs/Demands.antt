@@ -89,7 +89,7 @@ asked-where false x h = refl
 
 module _ (shape : Shape) (p n : ℕ) (candidates : List ℕ) (fits : (a : ℕ) → List·Memᴰ a candidates → a < 2 ^ degree p) where
   -- a good row over the candidates has what the shape asks for
-  suited-of : (r : List ℕ) → List·Memᴰ r (rowsOver (2 ^ degree p) candidates n) → isGood shape p n r ≡ true → Suited shape p n candidates r
+  pub suited-of : (r : List ℕ) → List·Memᴰ r (rowsOver (2 ^ degree p) candidates n) → isGood shape p n r ≡ true → Suited shape p n candidates r
   unfolding isGood isMds
   suited-of r m g =
       let (l, over) = mem-rows (2 ^ degree p) candidates n r .0 m in
@@ -101,7 +101,7 @@ module _ (shape : Shape) (p n : ℕ) (candidates : List ℕ) (fits : (a : ℕ) �
       }
 
   -- a row that has it is one of the rows, and good
-  of-suited : (r : List ℕ) → Suited shape p n candidates r → List·Memᴰ r (rowsOver (2 ^ degree p) candidates n) × (isGood shape p n r ≡ true)
+  pub of-suited : (r : List ℕ) → Suited shape p n candidates r → List·Memᴰ r (rowsOver (2 ^ degree p) candidates n) × (isGood shape p n r ≡ true)
   unfolding isGood isMds
   of-suited r b = (
     mem-rows (2 ^ degree p) candidates n r .1 (b .entries, λ a i. (b .over a i, fits a (b .over a i))),
@@ -138,17 +138,23 @@ module _ (shape : Shape) (p n : ℕ) (candidates : List ℕ) (fits : (a : ℕ) �
         ⊎-elim (λ (few : 2 ^ degree p ≤ 1). absurd (d (one-element few r s b c)))
         (λ (some : 1 < 2 ^ degree p). (suited-nonzero some r b, suited-nonzero some s c)) (le-or-lt (2 ^ degree p) 1)
 
+    -- of two good rows over the candidates, the first by the keys is before the other
+    pub before-exactly : (r s : List ℕ) → List·Memᴰ r (rowsOver (2 ^ degree p) candidates n) → isGood shape p n r ≡ true
+        → List·Memᴰ s (rowsOver (2 ^ degree p) candidates n) → isGood shape p n s ≡ true → s ≢ r
+        → ((keyOf p n r < keyOf p n s) ⊎ ((keyOf p n r ≡ keyOf p n s) × Earlier r s)) ↔ Before p n r s
+    before-exactly r s m g k f d =
+        let (x, y) = apart-nonzero r s (suited-of r m g) (suited-of s k f) d in
+        (key-before p n r s x y, before-key p n r s x y)
+
     pub shape-row : (r : List ℕ) → lightestRow shape p n candidates ≡ found r → FirstOf (Suited shape p n candidates) p n r
     unfolding lightestRow
     shape-row r e =
         let d = row-sorted (isGood shape p n) (keyOf p n) (sorted-rows (2 ^ degree p) candidates n) r e in
-        let h = suited-of r (d .isRow) (d .isGood) in
         record {
-          has = h;
+          has = suited-of r (d .isRow) (d .isGood);
           first = λ s b q.
               let (m, g) = of-suited s b in
-              let (x, y) = apart-nonzero r s h b q in
-              key-before p n r s x y (d .isFirst s m g q);
+              before-exactly r s (d .isRow) (d .isGood) m g q .0 (d .isFirst s m g q);
         }
 
     pub shape-only : (r : List ℕ) → FirstOf (Suited shape p n candidates) p n r → lightestRow shape p n candidates ≡ found r
@@ -159,10 +165,7 @@ module _ (shape : Shape) (p n : ℕ) (candidates : List ℕ) (fits : (a : ℕ) �
         (record {
           isRow = m;
           isGood = g;
-          isFirst = λ s i t q.
-              let b = suited-of s i t in
-              let (x, y) = apart-nonzero r s (d .has) b q in
-              before-key p n r s x y (d .first s b q);
+          isFirst = λ s i t q. before-exactly r s m g i t q .1 (d .first s (suited-of s i t) q);
         })
 
 pub order-of-candidates : (shape : Shape) (p n : ℕ) (candidates candidates′ : List ℕ) → ((a : ℕ) → List·Memᴰ a candidates ↔ List·Memᴰ a candidates′)
@@ -173,7 +176,7 @@ order-of-candidates shape p n candidates candidates′ same = same-answer (isGoo
 -- ---- each family, in the customer's words
 
 -- the first column of a Hadamard matrix has the row's entries, and so has the first line of a circulant matrix
-every-place : (family : Family) (n : ℕ) → EveryPlace (shapeOf family) n
+pub every-place : (family : Family) (n : ℕ) → EveryPlace (shapeOf family) n
 unfolding hadamardShape circulantShape
 every-place Hadamard n a l = (a, 0, l, omega arith, xor-zero-r a)
 every-place Circulant n a l = (0, a, omega arith, l, mod-once n (a + (n - 0)) a l (omega arith))
@@ -183,7 +186,7 @@ same-first : (P Q : List ℕ → Type 0) → ((s : List ℕ) → P s ↔ Q s) �
 same-first P Q same p n r d = record { has = same r .0 (d .has); first = λ s q. d .first s (same s .1 q) }
 
 -- what a shape asks for is what the customer asks for
-suited-asks : (family : Family) (p n : ℕ) (candidates r : List ℕ) → Suited (shapeOf family) p n candidates r ↔ Asks family p n candidates r
+pub suited-asks : (family : Family) (p n : ℕ) (candidates r : List ℕ) → Suited (shapeOf family) p n candidates r ↔ Asks family p n candidates r
 unfolding rowMatrix hadamardShape circulantShape hadamard circulant
 suited-asks Hadamard p n candidates r = (
   λ s. record { entries = s .entries; over = s .over; involution = s .involution refl; branch = s .branch },

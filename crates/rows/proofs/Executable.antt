@@ -1,16 +1,18 @@
 -- The searches in a form that computes. For a Hadamard matrix of order 4: ascending rows only, a row tested only where its sum is 1 and it is lighter
 -- than the row kept, and then by its blocks of size 1 and 2. For a circulant matrix: canonical rows only, a row tested only where it is lighter than
--- the row kept, and then by all its blocks. They answer what the searches answer.
+-- the row kept, and then by all its blocks. They answer what the searches answer. A walk at order 4: of the rows tried those that ascend, tested as
+-- in the search.
 -- Assumes nothing.
 use mathlib.Core.Path.{_≡_, refl, sym, ap, _∙_}
 use mathlib.Core.Logic.{inl, ⊎-elim}
-use mathlib.Core.Bool.{Bool, true, false, cond, _&&_, false≢true}
+use mathlib.Core.Bool.{Bool, true, false, cond, _&&_, and-assoc, false≢true}
 use mathlib.Core.List.{List, [], _∷_, _++_, map, List·Memᴰ, List·Memᴰ·head, List·Memᴰ·tail, List·Memᴰ·not-nil, List·Memᴰ·cases-cons, List·Memᴰ·append-cases, List·Memᴰ·eq-of-singleton, Memᴰ·append-left, Memᴰ·append-right, Memᴰ·cast, Memᴰ·map, Memᴰ·of-map}
-use Prim.Native.Nat.{ℕ, zero, suc, _^_, _<_}
+use Prim.Native.Nat.{ℕ, zero, suc, _^_, _≤_, _<_, min}
+use native.Mathlib.Nat.{min-eq-right}
 use native.Mathlib.Omega.{arith}
-use lib.Dec.{eqb, ltb}
-use lib.ListN.{length, getD}
-use borrow.Author.Tests.{eqb-true, eq-eqb, ltb-true, lt-ltb}
+use lib.Dec.{eqb, ltb, leb, lit≤}
+use lib.ListN.{length, getD, take}
+use borrow.Author.Tests.{eqb-true, eq-eqb, ltb-true, lt-ltb, leb-true, le-leb}
 use Rattle.algebra.specs.Matrix.{tabulate, upTo, before, words, sum, hadamard, circulant, skip, without, det, placesFrom, chosen, block}
 use Rattle.algebra.proofs.Involution.{and-left, and-right}
 use Rattle.algebra.proofs.Symmetry.{same-bool}
@@ -26,7 +28,9 @@ use Rattle.matrix.specs.Steps.Choice.{translated, isLeast, isLookedAt}
 use Rattle.matrix.specs.Steps.Regular.{isRegularBlock, regularOfSize, regularBetween}
 use Rattle.matrix.proofs.Theorems.{mds-is-regular}
 use Rattle.rows.specs.Lightest.{member, among, ascending, rowsOver, Earlier, differs, agrees, Best, nothing, found, lighter, keep, keepAll, lightest}
-use Rattle.rows.specs.Steps.IndexMaps.{canonical}
+use Rattle.rows.specs.Candidates.{someRepeated}
+use Rattle.rows.specs.Walks.{differing, arrangements, Walked, walkOver, walkOf}
+use Rattle.rows.specs.Steps.IndexMaps.{mapsOfFour, moves, inOrder, everyMove, canonical}
 use Rattle.rows.specs.Shape.{isGood, hadamardShape, circulantShape}
 use Rattle.rows.specs.Steps.Orders.{CirculantOrder}
 use Rattle.rows.specs.Steps.Around.{primePlaces, placeBelow}
@@ -34,6 +38,8 @@ use Rattle.rows.specs.Keys.{sumOf, depthOfRow, keyOf, lightestRow}
 use Rattle.rows.proofs.Rows.{Sorted, end, then, earlier-cast, sorted-append, sorted-map, getD-mem, mem-words, sorted-ascending, sorted-rows}
 use Rattle.rows.proofs.Lightest.{same-lightest}
 use Rattle.rows.proofs.Walk.{same-good}
+use Rattle.rows.proofs.RowNumbers.{falling, arrangements-count}
+use Rattle.rows.proofs.Walks.{tried-word, finished-lightest, canonical-walked}
 use Rattle.rows.proofs.IndexMaps.{canonical-four}
 use Rattle.rows.proofs.CirculantMaps.{canonicalAround}
 use Rattle.rows.proofs.CirculantRows.{good-circulant, circulant-below, canonical-circulant}
@@ -222,6 +228,42 @@ lightest-computed p h candidates =
     (good-tests p h r (word-in-field p 4 candidates r (mem-words letters 4 r .1 (l, over)))))
     ∙ sym (tests-together (sumsToOne p) (blocksPass p) (keyOf p 4) nothing (picks letters 4))
 
+-- ---- the walk
+
+-- the best of the rows that a walk at order 4 tries, to compute with
+unfoldable pub computedWalk : ℕ → List ℕ → ℕ → Best
+computedWalk p candidates budget =
+    tryAll (λ r. canonical 4 r && sumsToOne p r) (blocksPass p) (keyOf p 4) nothing (take budget (arrangements p 4 candidates))
+
+-- it is the best of the walk
+pub walk-computed : (p : ℕ) → Modulus p → (candidates : List ℕ) (budget : ℕ) → walkOf p 4 candidates budget .best ≡ computedWalk p candidates budget
+unfolding walkOf walkOver computedWalk lightest
+walk-computed p h candidates budget =
+    let rows = take budget (arrangements p 4 candidates) in
+    canonical-walked p 4 candidates h (inl refl) budget
+    ∙ same-good _ (λ r. (canonical 4 r && sumsToOne p r) && blocksPass p r) (keyOf p 4) nothing rows (λ r m.
+    ap (λ t. canonical 4 r && t) (good-tests p h r (word-in-field p 4 candidates r (tried-word p 4 candidates budget r m)))
+    ∙ sym (and-assoc (canonical 4 r) (sumsToOne p r) (blocksPass p r)))
+    ∙ sym (tests-together (λ r. canonical 4 r && sumsToOne p r) (blocksPass p) (keyOf p 4) nothing rows)
+
+-- where a walk stands
+abbrev pub stands : ℕ → Bool → Best → Walked
+stands tried over kept = record { rowsTried = tried; finished = over; best = kept }
+
+pub walk-stands : {p : ℕ} → Modulus p → (candidates : List ℕ) (budget tried : ℕ) (over : Bool) (kept : Best)
+    → min budget (length (arrangements p 4 candidates)) ≡ tried → leb (length (arrangements p 4 candidates)) budget ≡ over → computedWalk p candidates budget ≡ kept
+    → walkOf p 4 candidates budget ≡ stands tried over kept
+unfolding walkOf walkOver
+walk-stands {p} h candidates budget tried over kept e f g = rw (e, f, walk-computed p h candidates budget ∙ g)
+
+-- a finished walk, whose row the search has
+pub walk-ends : {p : ℕ} → Modulus p → (candidates : List ℕ) (budget tried : ℕ) (kept : Best) → length (arrangements p 4 candidates) ≡ tried → tried ≤ budget
+    → lightestRow hadamardShape p 4 candidates ≡ kept → walkOf p 4 candidates budget ≡ stands tried true kept
+unfolding walkOf walkOver
+walk-ends {p} h candidates budget tried kept e l g =
+    let over = le-leb (length (arrangements p 4 candidates)) budget (omega arith) in
+    rw (over, min-eq-right (leb-true _ _ over), e, finished-lightest p 4 candidates h (inl refl) budget over ∙ g)
+
 -- ---- the search for a circulant matrix
 
 -- all blocks of a row's circulant matrix are regular
@@ -301,4 +343,37 @@ around-rows = (
   circulant-computed 19 3 nineteen (omega arith, omega arith) _ ∙ refl,
   circulant-computed 283 4 two-eighty-three (omega arith, omega arith) _ ∙ refl,
   circulant-computed 7 2 seven (omega arith, omega arith) _ ∙ refl,
+)
+
+-- walks (document 02, Seven) over 19 and over 31: 1 4 9 13 is the first row of its candidates; none of the first 23 rows of 1 2 4 8 is good; over 31
+-- row 1 2 13 15, the ninth of six candidates, has the count of 1 2 4 6, the first, and less depth
+pub walked-rows : (walkOf 19 4 (1 ∷ 4 ∷ 9 ∷ 13 ∷ []) 0 ≡ stands 0 false nothing)
+    × (walkOf 19 4 (1 ∷ 4 ∷ 9 ∷ 13 ∷ []) 1 ≡ stands 1 false (found (1 ∷ 4 ∷ 9 ∷ 13 ∷ [])))
+    × (walkOf 19 4 (1 ∷ 4 ∷ 9 ∷ 13 ∷ []) 24 ≡ stands 24 true (found (1 ∷ 4 ∷ 9 ∷ 13 ∷ [])))
+    × (walkOf 19 4 (1 ∷ 2 ∷ 4 ∷ 8 ∷ []) 23 ≡ stands 23 false nothing)
+    × (walkOf 19 4 (1 ∷ 2 ∷ 4 ∷ 8 ∷ []) 24 ≡ stands 24 true nothing)
+    × (walkOf 19 4 (1 ∷ 4 ∷ 9 ∷ []) 0 ≡ stands 0 true nothing)
+    × (walkOf 19 4 (3 ∷ 1 ∷ 4 ∷ 9 ∷ 13 ∷ []) 0 ≡ stands 0 false nothing)
+    × (walkOf 31 4 (15 ∷ 1 ∷ 13 ∷ 2 ∷ 4 ∷ 6 ∷ []) 8 ≡ stands 8 false (found (1 ∷ 2 ∷ 4 ∷ 6 ∷ [])))
+    × (walkOf 31 4 (15 ∷ 1 ∷ 13 ∷ 2 ∷ 4 ∷ 6 ∷ []) 9 ≡ stands 9 false (found (1 ∷ 2 ∷ 13 ∷ 15 ∷ [])))
+unfolding computedWalk arrangements differing rowsOver words before someRepeated canonical everyMove inOrder moves mapsOfFour tryAll tryRow ascending upTo among member tabulate lighter keyOf sumOf depthOfRow elementCount lineDepth greatest depthOf firstBelow outputOnes onesInLine bit total sum hadamard regularBetween regularOfSize isLookedAt isLeast translated isRegularBlock everyBelow det without skip block chosen placesFrom xorCount onesInColumns ones onesIn product rem reduce degree overDigits digitsWithin _⊗_ _⊕_
+walked-rows = (
+  walk-stands nineteen _ 0 _ _ _ refl refl refl,
+  walk-stands nineteen _ 1 _ _ _ refl refl refl,
+  walk-stands nineteen _ 24 _ _ _ refl refl refl,
+  walk-stands nineteen _ 23 _ _ _ refl refl refl,
+  walk-stands nineteen _ 24 _ _ _ refl refl refl,
+  walk-stands nineteen _ 0 _ _ _ refl refl refl,
+  walk-stands nineteen _ 0 _ _ _ refl refl refl,
+  walk-stands thirty-one _ 8 _ _ _ refl refl refl,
+  walk-stands thirty-one _ 9 _ _ _ refl refl refl,
+)
+
+-- all fifteen elements have 15·14·13·12 rows of different entries
+pub fifteen-walked : (walkOf 19 4 (1 ∷ 2 ∷ 3 ∷ 4 ∷ 5 ∷ 6 ∷ 7 ∷ 8 ∷ 9 ∷ 10 ∷ 11 ∷ 12 ∷ 13 ∷ 14 ∷ 15 ∷ []) 999999 ≡ stands 32760 true (found (1 ∷ 4 ∷ 9 ∷ 13 ∷ [])))
+    × (walkOf 31 4 (1 ∷ 2 ∷ 3 ∷ 4 ∷ 5 ∷ 6 ∷ 7 ∷ 8 ∷ 9 ∷ 10 ∷ 11 ∷ 12 ∷ 13 ∷ 14 ∷ 15 ∷ []) 32760 ≡ stands 32760 true (found (1 ∷ 2 ∷ 13 ∷ 15 ∷ [])))
+unfolding falling ascending upTo among member tabulate degree overDigits digitsWithin
+fifteen-walked = (
+  walk-ends nineteen _ 999999 32760 _ (arrangements-count 19 4 _) (lit≤ tt) (over-nineteen .4),
+  walk-ends thirty-one _ 32760 32760 _ (arrangements-count 31 4 _) (lit≤ tt) (by-depth-rows .0),
 )

@@ -21,14 +21,14 @@ use Rattle.matrix.specs.Steps.Regular.{regularBetween}
 use Rattle.matrix.proofs.Residues.{lift, lift-number, regular-carried}
 use Rattle.matrix.proofs.Rows.{involution-row-sum, row-sum-involution, equal-entries-not-mds, half-is-enough, moved-row-mds, moved-row-involution}
 use Rattle.matrix.proofs.Planes.{nonzero-entry}
-use Rattle.rows.specs.Lightest.{ascending, lightest, rowsOver}
+use Rattle.rows.specs.Lightest.{Earlier, ascending, lightest, rowsOver}
 use Rattle.rows.specs.Steps.IndexMaps.{Move, from, moves, moved, canonical}
 use Rattle.rows.specs.Shape.{rowMatrix, isGood, hadamardShape}
 use Rattle.rows.specs.Keys.{depthOfRow, keyOf, lightestRow}
 use Rattle.rows.specs.Steps.Orders.{SearchOrder}
-use Rattle.rows.proofs.Rows.{getD-mem, mem-words, mem-ascending, sorted-ascending}
+use Rattle.rows.proofs.Rows.{Sorted, getD-mem, mem-words, sorted-words, mem-ascending, sorted-ascending}
 use Rattle.rows.proofs.Keys.{key-permuted}
-use Rattle.rows.proofs.IndexMaps.{moves-sound, moves-inverse, canonical-rows}
+use Rattle.rows.proofs.IndexMaps.{moves-sound, moves-inverse, moved-word, MovedAmong, canonical-rows}
 
 -- ---- the order is a power of 2
 
@@ -164,15 +164,26 @@ word-in-field p n cs r i =
     let (l, over) = mem-words (ascending (2 ^ degree p) cs) n r .0 i in
     over-in-field p n (ascending (2 ^ degree p) cs) (λ a m. mem-ascending (2 ^ degree p) cs a .0 m .1) r l over
 
--- the lightest row is the lightest of the canonical ones
+-- of words over the candidates in dictionary order, among which the moved ones are, the lightest is the lightest of the canonical ones
+pub canonical-among : (p n : ℕ) → Modulus p → SearchOrder n → (cs : List ℕ) {rows : List (List ℕ)} → Sorted Earlier rows → MovedAmong n rows
+    → ((r : List ℕ) → List·Memᴰ r rows → List·Memᴰ r (words (ascending (2 ^ degree p) cs) n))
+    → lightest (isGood hadamardShape p n) (keyOf p n) rows ≡ lightest (λ r. canonical n r && isGood hadamardShape p n r) (keyOf p n) rows
+canonical-among p n h o cs {rows} sorted among isWord =
+    canonical-rows (isGood hadamardShape p n) (keyOf p n) sorted n among
+    (λ r i. mem-words (ascending (2 ^ degree p) cs) n r .0 (isWord r i) .0)
+    (λ r i g. good-different p n h o r (inField r i) g)
+    (λ m j r i g. (good-moved p n h o r (inField r i) m j ∙ g, le-of (key-moved p n m j r)))
+  where
+    inField : (r : List ℕ) → List·Memᴰ r rows → WordsInField p n r
+    inField r i = word-in-field p n cs r (isWord r i)
+
+    le-of : {a b : ℕ} → a ≡ b → a ≤ b
+    le-of e = omega arith
+
+-- so of all of them
 pub canonical-lightest : (p n : ℕ) → Modulus p → SearchOrder n → (cs : List ℕ)
     → lightestRow hadamardShape p n cs
     ≡ lightest (λ r. canonical n r && isGood hadamardShape p n r) (keyOf p n) (words (ascending (2 ^ degree p) cs) n)
 unfolding lightestRow rowsOver
 canonical-lightest p n h o cs =
-    canonical-rows (isGood hadamardShape p n) (keyOf p n) (sorted-ascending (2 ^ degree p) cs) n
-    (λ r i g. good-different p n h o r (word-in-field p n cs r i) g)
-    (λ m j r i g. (good-moved p n h o r (word-in-field p n cs r i) m j ∙ g, le-of (key-moved p n m j r)))
-  where
-    le-of : {a b : ℕ} → a ≡ b → a ≤ b
-    le-of e = omega arith
+    canonical-among p n h o cs (sorted-words (sorted-ascending (2 ^ degree p) cs) n) (λ m j r i e. moved-word n m j (ascending (2 ^ degree p) cs) r i) (λ r i. i)

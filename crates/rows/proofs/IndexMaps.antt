@@ -1,7 +1,7 @@
 -- The index maps of order 4 and 8: each is its own inverse, affine over the index bits, and moves a row that violates its
 -- inequality to an earlier row over the same letters. So only the canonical rows need be tried.
 -- Assumes nothing.
-use mathlib.Core.Path.{_≡_, refl, ap, _∙_}
+use mathlib.Core.Path.{_≡_, refl, sym, ap, _∙_}
 use mathlib.Core.Logic.{⊎-elim}
 use mathlib.Core.Bool.{Bool, true, false, cond, _&&_, true≢false, false≢true}
 use mathlib.Core.List.{List, [], _∷_, List·Memᴰ, List·Memᴰ·head, List·Memᴰ·tail, List·Memᴰ·not-nil, List·Memᴰ·cases-cons, Memᴰ·cast}
@@ -20,7 +20,7 @@ use Rattle.field.specs.Steps.{everyBelow}
 use Rattle.matrix.proofs.Squares.{every-each}
 use Rattle.rows.specs.Lightest.{Earlier, lightest}
 use Rattle.rows.specs.Steps.IndexMaps.{Move, from, mapsOfFour, mapsOfEight, moves, moved, inOrder, everyMove, canonical, lowers, turnsBack, affine, sound}
-use Rattle.rows.proofs.Rows.{Sorted, earlier-at, sorted-words, mem-words, getD-mem}
+use Rattle.rows.proofs.Rows.{Sorted, earlier-at, mem-words, getD-mem}
 use Rattle.rows.proofs.Lightest.{canonical-suffices}
 
 -- ---- the computed test of the table
@@ -117,6 +117,21 @@ module _ (n : ℕ) (m : Move) (inTable : List·Memᴰ m (moves n)) where
       let (k, h, e) = mem-tabulate n _ a i in
       Memᴰ·cast e (getD-mem row (from m k) 0 (omega (arith, moves-sound n m inTable .below k h)))
 
+  -- so it is a word over the same letters
+  pub moved-word : (letters row : List ℕ) → List·Memᴰ row (words letters n) → List·Memᴰ (moved n m row) (words letters n)
+  moved-word letters row i =
+      let (l, over) = mem-words letters n row .0 i in
+      mem-words letters n (moved n m row) .1 (moved-length n m row, λ a h. over a (moved-from row l a h))
+
+  -- its entries differ where those of the row do
+  pub moved-different : (row : List ℕ) → ((i j : ℕ) → i < n → j < n → getD row i 0 ≡ getD row j 0 → i ≡ j)
+      → (i j : ℕ) → i < n → j < n → getD (moved n m row) i 0 ≡ getD (moved n m row) j 0 → i ≡ j
+  moved-different row different i j l k e =
+      let ok = moves-sound n m inTable in
+      sym (ok .back i l)
+      ∙ ap (from m) (different (from m i) (from m j) (ok .below i l) (ok .below j k) (sym (moved-entry n m row i l) ∙ e ∙ moved-entry n m row j k))
+      ∙ ok .back j k
+
   module _ (row : List ℕ) (entries : length row ≡ n) where
     -- it is earlier than a row that violates the inequality
     pub moved-earlier : getD row (m .high) 0 < getD row (m .low) 0 → Earlier (moved n m row) row
@@ -166,14 +181,20 @@ violated n row different e =
     let apart : getD row (m .low) 0 ≡ getD row (m .high) 0 → ⊥ = λ q. omega (arith, different (m .low) (m .high) (omega arith) (ok .inside) q) in
     (m, i, elim (decLt (getD row (m .high) 0) (getD row (m .low) 0)) [ yes l ↦ l | no l ↦ absurd (apart (omega arith)) ])
 
--- where good rows have different entries, and a move keeps goodness and key, the canonical rows are enough
-pub canonical-rows : (good : List ℕ → Bool) (key : List ℕ → ℕ) {letters : List ℕ} → Sorted _<_ letters → (n : ℕ)
-    → ((r : List ℕ) → List·Memᴰ r (words letters n) → good r ≡ true → (i j : ℕ) → i < n → j < n → getD r i 0 ≡ getD r j 0 → i ≡ j)
-    → ((m : Move) → List·Memᴰ m (moves n) → (r : List ℕ) → List·Memᴰ r (words letters n) → good r ≡ true → (good (moved n m r) ≡ true) × (key (moved n m r) ≤ key r))
-    → lightest good key (words letters n) ≡ lightest (λ r. canonical n r && good r) key (words letters n)
-canonical-rows good key {letters} ascends n different keeps =
-    canonical-suffices good (canonical n) key (sorted-words ascends n) λ r i g e.
-    let (l, over) = mem-words letters n r .0 i in
+-- a row stays among the rows where a move makes it earlier
+abbrev pub MovedAmong : ℕ → List (List ℕ) → Type 0
+MovedAmong n rows = (m : Move) → List·Memᴰ m (moves n) → (r : List ℕ) → List·Memᴰ r rows → Earlier (moved n m r) r → List·Memᴰ (moved n m r) rows
+
+-- of rows in dictionary order among which the moved rows are, where good ones have different entries, and a move keeps goodness and key, the
+-- canonical rows are enough
+pub canonical-rows : (good : List ℕ → Bool) (key : List ℕ → ℕ) {rows : List (List ℕ)} → Sorted Earlier rows → (n : ℕ) → MovedAmong n rows
+    → ((r : List ℕ) → List·Memᴰ r rows → length r ≡ n)
+    → ((r : List ℕ) → List·Memᴰ r rows → good r ≡ true → (i j : ℕ) → i < n → j < n → getD r i 0 ≡ getD r j 0 → i ≡ j)
+    → ((m : Move) → List·Memᴰ m (moves n) → (r : List ℕ) → List·Memᴰ r rows → good r ≡ true → (good (moved n m r) ≡ true) × (key (moved n m r) ≤ key r))
+    → lightest good key rows ≡ lightest (λ r. canonical n r && good r) key rows
+canonical-rows good key sorted n among entries different keeps =
+    canonical-suffices good (canonical n) key sorted λ r i g e.
     let (m, j, less) = violated n r (different r i g) e in
     let (g′, k) = keeps m j r i g in
-    (moved n m r, mem-words letters n (moved n m r) .1 (moved-length n m r, λ a h. over a (moved-from n m j r l a h)), g′, k, moved-earlier n m j r l less)
+    let earlier = moved-earlier n m j r (entries r i) less in
+    (moved n m r, among m j r i earlier, g′, k, earlier)

@@ -9,6 +9,10 @@ pub mod IndexMaps
 pub mod HadamardRows
 pub mod CirculantMaps
 pub mod CirculantRows
-pub mod Executable
 pub mod FewCandidates
+pub mod Arrangements
+pub mod RowNumbers
+pub mod Walks
+pub mod Executable
+pub mod Bounds
 pub mod RowsBefore

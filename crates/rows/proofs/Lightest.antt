@@ -107,17 +107,23 @@ module _ (good : List ℕ → Bool) (key : List ℕ → ℕ) where
       apart : nothing ≡ found r → ⊥
       apart q = let z : _≡_ {A = ℕ} 0 1 = cc in omega arith
 
-  -- a row kept at the end is the lightest
-  lightest-of : {rows : List (List ℕ)} {best : Best} (r : List ℕ) → Outcome nothing rows best → best ≡ found r → IsLightest good key rows r
-  lightest-of r (stays e h) q = absurd (let z : _≡_ {A = ℕ} 0 1 = cc in omega arith)
-  lightest-of {rows} r (takes r′ e m k l h) q =
+  -- a row kept at the end is one of the good rows, and each of these is it or comes behind it
+  kept-first : {rows : List (List ℕ)} {best : Best} (r : List ℕ) → Outcome nothing rows best → best ≡ found r
+      → List·Memᴰ r rows × (good r ≡ true) × ((s : List ℕ) → List·Memᴰ s rows → good s ≡ true → First r s)
+  kept-first r (stays e h) q = absurd (let z : _≡_ {A = ℕ} 0 1 = cc in omega arith)
+  kept-first {rows} r (takes r′ e m k l h) q =
       let same : r′ ≡ r = cc in
-      subst (IsLightest good key rows) same
-      (record {
+      subst (λ r. List·Memᴰ r rows × (good r ≡ true) × ((s : List ℕ) → List·Memᴰ s rows → good s ≡ true → First r s)) same (m, k, h)
+
+  -- so it is the lightest
+  lightest-of : {rows : List (List ℕ)} {best : Best} (r : List ℕ) → Outcome nothing rows best → best ≡ found r → IsLightest good key rows r
+  lightest-of r o q =
+      let (m, k, h) = kept-first r o q in
+      record {
         isRow = m;
         isGood = k;
         isFirst = λ s n g d. ⊎-elim (λ e. absurd (d e)) (λ f. f) (h s n g);
-      })
+      }
 
   -- of two rows that are both the lightest, none is before the other
   unique-of : {rows : List (List ℕ)} {best : Best} (r : List ℕ) → IsLightest good key rows r → Outcome nothing rows best → best ≡ found r
@@ -138,6 +144,12 @@ module _ (good : List ℕ → Bool) (key : List ℕ → ℕ) where
     pub none-sorted : (lightest good key rows ≡ nothing) ↔ ((r : List ℕ) → List·Memᴰ r rows → good r ≡ false)
     unfolding lightest
     none-sorted = none-of (outcome nothing sorted)
+
+    -- a good row is the row that is answered, or comes behind it
+    pub first-sorted : (r : List ℕ) → lightest good key rows ≡ found r → (s : List ℕ) → List·Memᴰ s rows → good s ≡ true
+        → (s ≡ r) ⊎ ((key r < key s) ⊎ ((key r ≡ key s) × Earlier r s))
+    unfolding lightest
+    first-sorted r e = kept-first r (outcome nothing sorted) e .2
 
     -- a row that is answered is the lightest
     pub row-sorted : (r : List ℕ) → lightest good key rows ≡ found r → IsLightest good key rows r

@@ -133,18 +133,22 @@ sorted-words s (suc n) = sorted-before s (sorted-words s n)
 
 -- ---- tables
 
--- a member stands somewhere
-pub mem-at : (l : List ℕ) (a : ℕ) → List·Memᴰ a l → (i : ℕ) × (i < length l) × (getD l i 0 ≡ a)
-mem-at [] a m = absurd (List·Memᴰ·not-nil m)
-mem-at (b ∷ l) a m =
-    ⊎-elim (λ (q : a ≡ b). (0, omega arith, sym q)) (λ k. let (i, h, e) = mem-at l a k in (suc i, omega arith, e)) (List·Memᴰ·cases-cons m)
-
 module _ {A : Type 0} where
+  -- a member stands somewhere
+  pub mem-place : (l : List A) (d a : A) → List·Memᴰ a l → (i : ℕ) × (i < length l) × (getD l i d ≡ a)
+  mem-place [] d a m = absurd (List·Memᴰ·not-nil m)
+  mem-place (b ∷ l) d a m =
+      ⊎-elim (λ (q : a ≡ b). (0, omega arith, sym q)) (λ k. let (i, h, e) = mem-place l d a k in (suc i, omega arith, e)) (List·Memᴰ·cases-cons m)
+
   -- an entry is a member
   pub getD-mem : (l : List A) (i : ℕ) (d : A) → i < length l → List·Memᴰ (getD l i d) l
   getD-mem [] i d h = absurd (omega arith)
   getD-mem (x ∷ l) zero d h = List·Memᴰ·head refl
   getD-mem (x ∷ l) (suc i) d h = List·Memᴰ·tail (getD-mem l i d (omega arith))
+
+-- the place of a number
+pub mem-at : (l : List ℕ) (a : ℕ) → List·Memᴰ a l → (i : ℕ) × (i < length l) × (getD l i 0 ≡ a)
+mem-at l a m = mem-place l 0 a m
 
 -- the table of an ascending function ascends
 pub sorted-tabulate : (n : ℕ) (f : ℕ → ℕ) → ((i j : ℕ) → i < j → f i < f j) → Sorted _<_ (tabulate n f)

@@ -53,7 +53,7 @@ module _ (good : List ℕ → Bool) (key : List ℕ → ℕ) where
   -- ---- the fold
 
   -- the fold over two lists behind each other
-  keepAll-append : (best : Best) (l l′ : List (List ℕ)) → keepAll good key best (l ++ l′) ≡ keepAll good key (keepAll good key best l) l′
+  pub keepAll-append : (best : Best) (l l′ : List (List ℕ)) → keepAll good key best (l ++ l′) ≡ keepAll good key (keepAll good key best l) l′
   unfolding keepAll
   keepAll-append best [] l′ = refl
   keepAll-append best (r ∷ l) l′ = keepAll-append (keep good key best r) l l′

@@ -1,10 +1,10 @@
--- Demand 3, and what request Six asks of circulant rows, in the customer's words. Assumes nothing.
+-- Demand 3, what request Six asks of circulant rows, and request Seven of the rows tried, in the customer's words. Assumes nothing.
 use mathlib.Core.Path.{_≡_}
 use mathlib.Core.Logic.{_≢_}
 use mathlib.Core.Bool.{true}
 use mathlib.Core.List.{List, List·Memᴰ}
 use Prim.Native.Nat.{ℕ, suc, _<_}
-use lib.ListN.{length, getD}
+use lib.ListN.{length, getD, take}
 use Rattle.algebra.specs.Matrix.{hadamard, circulant, branchNumber, isInvolution}
 use Rattle.lines.specs.Numbers.{numbers, elements}
 use Rattle.lines.specs.Counts.{rowCount}
@@ -12,6 +12,7 @@ use Rattle.rows.specs.declared.Family.{Family}
 use Rattle.rows.specs.declared.Family.the-variants.{Hadamard, Circulant}
 use Rattle.rows.specs.Lightest.{Earlier}
 use Rattle.rows.specs.Keys.{depthOfRow}
+use Rattle.rows.specs.Walks.{arrangements}
 
 -- the XOR count of a row
 abbrev pub countOfRow : ℕ → ℕ → List ℕ → ℕ
@@ -35,6 +36,11 @@ pub record Both (p n : ℕ) (candidates row : List ℕ) : Type 0 where
   pub over : (a : ℕ) → List·Memᴰ a row → List·Memᴰ a candidates
   pub involution : isInvolution (numbers p) (elements p) n (hadamard (numbers p) row) ≡ true
   pub branch : branchNumber (numbers p) (elements p) n (hadamard (numbers p) row) ≡ suc n
+
+-- a row with both properties among the rows of different candidates that a walk of the budget tries
+pub record TriedBoth (p n : ℕ) (candidates : List ℕ) (budget : ℕ) (row : List ℕ) : Type 0 where
+  pub isTried : List·Memᴰ row (take budget (arrangements p n candidates))
+  pub both : Both p n candidates row
 
 -- a row over the brief's elements whose circulant matrix is MDS: n entries, each of them a candidate, which may stand several times; its
 -- circulant matrix has branch number order plus one

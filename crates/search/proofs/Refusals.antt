@@ -3,7 +3,7 @@
 use mathlib.Core.Path.{_≡_, refl, sym, ap, ap₂, _∙_}
 use mathlib.Core.Logic.{_⊎_, inl, inr}
 use mathlib.Core.Bool.{Bool, true, false, not, _||_, or-false, true≢false}
-use mathlib.Core.List.{List, [], _∷_}
+use mathlib.Core.List.{List, [], _∷_, _++_}
 use Prim.Native.Nat.{ℕ, suc, _+_, _-_, _≤_, _<_, _^_}
 use native.Mathlib.Numerals.{add-one}
 use native.Mathlib.Omega.{arith}
@@ -11,12 +11,13 @@ use lib.Dec.{eqb, ltb}
 use lib.ListN.{length, getD, take, drop, length-drop, drop-of-length-le}
 use lib.Seq.{drop-cons, take-all}
 use borrow.Author.Tests.{eqb-true, ne-eqb, le-leb, lt-leb, lt-ltb, le-ltb, ltb-false}
-use Rattle.refusal.specs.Refusals.{fault, Answer, answer, answerAfter}
+use Rattle.refusal.specs.Refusals.{Fault, fault, firstNumber, Answer, answer, answerAfter}
 use Rattle.refusal.specs.declared.Refusal.the-variants.{NoRow}
-use Rattle.refusal.proofs.Faults.{after-taken, after-left, after-empty}
+use Rattle.refusal.proofs.Faults.{numbered, first-passed, first-parts, after-taken, after-left, after-later, after-empty}
 use Rattle.refusal.proofs.Tests.{or-none}
-use Rattle.field.specs.Polynomial.{degree}
-use Rattle.field.specs.Faults.{isTooLarge}
+use Rattle.field.specs.Polynomial.{Modulus, degree}
+use Rattle.field.specs.Faults.{isTooLarge, polynomialFaults}
+use Rattle.field.proofs.Calls.{modulus-parts}
 use Rattle.lines.specs.Counts.{elementCount}
 use Rattle.rows.specs.declared.Family.{Family}
 use Rattle.rows.specs.declared.Family.the-variants.{Hadamard, Circulant}
@@ -25,7 +26,7 @@ use Rattle.rows.specs.Keys.{sumOf}
 use Rattle.cuts.specs.Steps.Families.{OrderOf}
 use Rattle.lightest.specs.declared.Best.{Best as Kept}
 use Rattle.rows.specs.Candidates.{someTooLarge, someRepeated, someBad}
-use Rattle.search.specs.Answer.{isWrongSearchOrder, isWrongSearchCount, isWrongCirculantOrder, isWrongCirculantCount, isWrongOrderFor, isNone, RowFound, noRow, rowFound}
+use Rattle.search.specs.Answer.{isWrongSearchOrder, isWrongSearchCount, isWrongCirculantOrder, isWrongCirculantCount, isWrongOrderFor, isWrongCountFor, briefFaults, isNone, RowFound, noRow, rowFound}
 use Rattle.lightest.specs.Steps.Prefix.{kept, bestAs}
 use Rattle.lightest.proofs.Prefixes.{count-take, best-found, best-none}
 
@@ -186,3 +187,35 @@ module _ (p n : ℕ) (b : Kept) (holds : b ≡ kept p n (bestAs n b)) where
       ap (says 9 0) (ap (λ (x : Kept). x .row) (holds ∙ ap (kept p n) (best-none b n f)))
       ∙ after-taken noRow noRow NoRow true [] refl
       ∙ ap nine (sym (best-none b n f))
+
+-- ---- a brief that is not refused
+
+-- what holds where none of 3 to 8 applies
+pub record BriefPassed (family : Family) (p n : ℕ) (values : List ℕ) : Type 0 where
+  pub modulus : Modulus p
+  pub order : OrderOf family n
+  pub large : someTooLarge p values ≡ false
+  pub bad : someBad values ≡ false
+
+module _ (family : Family) (p n : ℕ) (values : List ℕ) where
+  brief-numbered : numbered (briefFaults family p n values) ≡ true
+  unfolding polynomialFaults numbered
+  brief-numbered = refl
+
+  module _ (none : firstNumber (briefFaults family p n values) ≡ 0) where
+    pub brief-passed : BriefPassed family p n values
+    brief-passed =
+        let (modulus, e₄) = modulus-parts p _ none in
+        let (order, e₅) = first-passed 5 0 (isWrongOrderFor family n) _ (λ h. omega arith) e₄ in
+        let (count, e₆) = first-passed 6 0 (isWrongCountFor family n (length values)) _ (λ h. omega arith) e₅ in
+        let (large, e₇) = first-passed 7 0 (someTooLarge p values) _ (λ h. omega arith) e₆ in
+        let (bad, e₈) = first-passed 8 0 (someBad values) [] (λ h. omega arith) e₇ in
+        record { modulus = modulus; order = family-order family n order; large = large; bad = bad }
+
+    -- then what is looked at behind decides
+    pub brief-behind : {A : Type 0} (empty value : A) (more : List Fault) → answerAfter empty more value ≡ answerAfter empty (briefFaults family p n values ++ more) value
+    brief-behind empty value more = after-later empty value (briefFaults family p n values) more brief-numbered none
+
+  -- and a list that passes with more behind passes both
+  pub brief-parts : (more : List Fault) → firstNumber (briefFaults family p n values ++ more) ≡ 0 → (firstNumber (briefFaults family p n values) ≡ 0) × (firstNumber more ≡ 0)
+  brief-parts more e = first-parts (briefFaults family p n values) more brief-numbered e

@@ -49,12 +49,14 @@ abbrev pub isNone : Best → Bool
 isNone nothing = true
 isNone (found row) = false
 
--- the faults of a search whose lightest row this is, in the order in which they are looked at
-unfoldable pub searchFaults : Family → ℕ → ℕ → List ℕ → Best → List Fault
-searchFaults family p n candidates best =
+-- 3 to 8: the faults of a brief, in the order in which they are looked at
+abbrev pub briefFaults : Family → ℕ → ℕ → List ℕ → List Fault
+briefFaults family p n candidates =
     callFaults p (isWrongOrderFor family n) (isWrongCountFor family n (length candidates)) (someTooLarge p candidates) (someBad candidates)
-    ++ fault 9 (isNone best)
-    ∷ []
+
+-- the faults of a search whose lightest row this is: those of its brief, then 9
+unfoldable pub searchFaults : Family → ℕ → ℕ → List ℕ → Best → List Fault
+searchFaults family p n candidates best = briefFaults family p n candidates ++ fault 9 (isNone best) ∷ []
 
 -- what a search finds: the sum of the row's element counts, and the row, filled up to eight entries with 0
 pub record RowFound : Type 0 where

@@ -4,21 +4,23 @@
 ghost use mathlib.Core.Path.{_≡_};
 ghost use Prim.Native.Nat.{_≤_};
 ghost use mathlib.Core.List.{[], _∷_};
-ghost use Rattle.refusal.specs.Refusals.{numberOf, fault, answer, answerAfter};
+ghost use Rattle.refusal.specs.Refusals.{numberOf, fault, answer, answerOf, answerAfter};
 ghost use Rattle.field.specs.Polynomial.{Modulus};
 ghost use Rattle.lines.specs.Numbers.{WordsInField};
 ghost use Rattle.rows.specs.declared.Family.the-variants.{Hadamard, Circulant};
-ghost use Rattle.search.specs.Answer.{isNone, noRow, rowFound, searchAnswer, saysSearch};
+ghost use Rattle.search.specs.Answer.{briefFaults, isNone, noRow, rowFound, searchAnswer, saysSearch};
 ghost use Rattle.lightest.specs.Steps.Prefix.{kept, bestAs};
 use lightest::Best;
 use lightest::lightest_row;
+use refusal::Outcome;
+use refusal::Refusal;
 use rows::Family;
 
 mod front;
 
 // What a search answers: the sum of the row's counts or the refusal, and the row, all zeros where the search is refused.
 pub struct SearchResult {
-    pub outcome: refusal::Outcome,
+    pub outcome: Outcome,
     pub row: [u8; 8],
 }
 
@@ -40,44 +42,54 @@ pub fn search_circulant(p: u32, n: u32, candidates: &[u32]) -> SearchResult
 pub fn search_for(family: Family, p: u32, n: u32, candidates: &[u32]) -> SearchResult
     ensures { λ r. ⌜ saysSearch r ≡ searchAnswer family p n (now (candidates .entry)) ⌝ }
 {
-    match field::checked_degree(p) {
-        refusal::Outcome::Refused(r) => refused(r),
-        refusal::Outcome::Value(_) => search_over(family, p as u16, n, candidates),
+    match checked_brief(family, p, n, candidates) {
+        Outcome::Refused(r) => refused(r),
+        Outcome::Value(_) => found(
+            p as u16,
+            n as usize,
+            lightest_row(family, p as u16, n as usize, candidates),
+        ),
     }
 }
 
 // A refusal, without a row.
-fn refused(reason: refusal::Refusal) -> SearchResult
+fn refused(reason: Refusal) -> SearchResult
     ensures { λ r. ⌜ saysSearch r ≡ answer (numberOf reason) noRow ⌝ }
 {
     SearchResult {
-        outcome: refusal::Outcome::Refused(reason),
+        outcome: Outcome::Refused(reason),
         row: [0; 8],
     }
 }
 
+// Whether a brief is refused, with 3 to 8; else the value is 0.
+pub fn checked_brief(family: Family, p: u32, n: u32, candidates: &[u32]) -> Outcome
+    ensures { λ r. ⌜ answerOf r ≡ answerAfter 0 (briefFaults family p n (now (candidates .entry))) 0 ⌝ }
+{
+    match field::checked_degree(p) {
+        Outcome::Refused(r) => Outcome::Refused(r),
+        Outcome::Value(_) => brief_over(family, p as u16, n, candidates),
+    }
+}
+
 // The same where the polynomial passes.
-fn search_over(family: Family, p: u16, n: u32, candidates: &[u32]) -> SearchResult
+fn brief_over(family: Family, p: u16, n: u32, candidates: &[u32]) -> Outcome
     requires { ⌜ Modulus p ⌝ }
-    ensures { λ r. ⌜ saysSearch r ≡ searchAnswer family p n (now (candidates .entry)) ⌝ }
+    ensures { λ r. ⌜ answerOf r ≡ answerAfter 0 (briefFaults family p n (now (candidates .entry))) 0 ⌝ }
 {
     if front::is_wrong_order(family, n) {
-        return refused(refusal::Refusal::OrderRange);
+        return Outcome::Refused(Refusal::OrderRange);
     }
     if front::is_wrong_count(family, n, candidates.len()) {
-        return refused(refusal::Refusal::CountRange);
+        return Outcome::Refused(Refusal::CountRange);
     }
     if front::some_too_large(p, candidates) {
-        return refused(refusal::Refusal::ValueRange);
+        return Outcome::Refused(Refusal::ValueRange);
     }
     if front::some_bad(candidates) {
-        return refused(refusal::Refusal::BadCandidate);
+        return Outcome::Refused(Refusal::BadCandidate);
     }
-    found(
-        p,
-        n as usize,
-        lightest_row(family, p, n as usize, candidates),
-    )
+    Outcome::Value(0)
 }
 
 // The row kept as an answer; the sum of its counts is taken here.
@@ -89,12 +101,12 @@ fn found(p: u16, n: usize, best: Best) -> SearchResult
     if best.found {
         let sum = lines::count::element_count(p, row, n);
         SearchResult {
-            outcome: refusal::Outcome::Value(sum),
+            outcome: Outcome::Value(sum),
             row,
         }
     } else {
         SearchResult {
-            outcome: refusal::Outcome::Refused(refusal::Refusal::NoRow),
+            outcome: Outcome::Refused(Refusal::NoRow),
             row,
         }
     }

@@ -102,10 +102,10 @@ value-bytes i (v ∷ vs) =
     (bytes-append (column v) (lineEnd i (length vs)) (column-bytes v) (end-bytes i (length vs)))
     (value-bytes (suc i) vs)
 
-pub request-bytes : (kind polynomial order : ℕ) (values : List ℕ) → Bytes (requestText kind polynomial order values)
+pub request-bytes : (kind polynomial order : ℕ) (further values : List ℕ) → Bytes (requestText kind polynomial order further values)
 unfolding requestText
-request-bytes k p o vs =
-    bytes-append (lineText (k ∷ p ∷ o ∷ length vs ∷ [])) (valueText 0 vs) (line-bytes (k ∷ p ∷ o ∷ length vs ∷ [])) (value-bytes 0 vs)
+request-bytes k p o fs vs =
+    bytes-append (lineText (k ∷ p ∷ o ∷ length vs ∷ fs)) (valueText 0 vs) (line-bytes (k ∷ p ∷ o ∷ length vs ∷ fs)) (value-bytes 0 vs)
 
 pub answer-bytes : (lines : List (List ℕ)) → Bytes (answerText lines)
 unfolding answerText

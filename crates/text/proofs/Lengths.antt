@@ -1,16 +1,17 @@
--- How many bytes the texts have: six for a number, one for a line's end, 25 + 6 n + (n + 15) / 16 for a request of n values.
+-- How many bytes the texts have: six for a number, one for a line's end, 25 + 6 k + 6 n + (n + 15) / 16 for a request of n values with
+-- k further numbers.
 -- Assumes nothing.
 use mathlib.Core.Path.{_≡_, refl, ap}
-use mathlib.Core.Bool.{true, false, _||_, or-true}
+use mathlib.Core.Bool.{Bool, true, false, cond, _||_, or-true}
 use mathlib.Core.List.{List, [], _∷_, _++_}
-use Prim.Native.Nat.{ℕ, zero, suc, _+_, _*_, _/_, _%_}
+use Prim.Native.Nat.{ℕ, zero, suc, _+_, _*_, _/_, _%_, _≤_}
 use native.Mathlib.Omega.{arith}
 use native.Mathlib.Decide.{ℕ-discrete}
 use borrow.Author.Tests.{eq-eqb, ne-eqb}
 use lib.ListN.{length, length-append}
 use lib.Dec.{eqb}
-use Rattle.text.specs.Text.{column, columns, lineText, lineEnd, valueText, requestText}
-use Rattle.text.specs.Reading.{valuesFrom}
+use Rattle.text.specs.Text.{column, columns, lineText, lineEnd, valueText, furtherNumbers, requestText}
+use Rattle.text.specs.Reading.{valuesFrom, numbersFrom}
 
 pub length-column : (v : ℕ) → length (column v) ≡ 6
 unfolding column
@@ -74,11 +75,26 @@ unfolding ends valueText
 length-values [] = refl
 length-values (v ∷ vs) = omega (arith, values-suc 0 v vs)
 
-pub length-request : (kind polynomial order : ℕ) (vs : List ℕ) → length (requestText kind polynomial order vs) ≡ 25 + 6 * length vs + (length vs + 15) / 16
+pub length-request : (kind polynomial order : ℕ) (further vs : List ℕ)
+    → length (requestText kind polynomial order further vs) ≡ 25 + 6 * length further + 6 * length vs + (length vs + 15) / 16
 unfolding requestText
-length-request k p o vs =
-    let line = lineText (k ∷ p ∷ o ∷ length vs ∷ []) in
-    omega (arith, length-append line (valueText 0 vs), length-line (k ∷ p ∷ o ∷ length vs ∷ []), length-values vs)
+length-request k p o fs vs =
+    let numbers = k ∷ p ∷ o ∷ length vs ∷ fs in
+    omega (arith, length-append (lineText numbers) (valueText 0 vs), length-line numbers, length-values vs)
+
+-- line one has at most one further number
+pub further-le : (kind : ℕ) → furtherNumbers kind ≤ 1
+unfolding furtherNumbers
+further-le kind = go (eqb kind 6)
+  where
+    go : (t : Bool) → cond t 1 0 ≤ 1
+    go true = omega arith
+    go false = omega arith
+
+pub length-numbersFrom : (s : List ℕ) (at n : ℕ) → length (numbersFrom s at n) ≡ n
+unfolding numbersFrom
+length-numbersFrom s at zero = refl
+length-numbersFrom s at (suc n) = ap suc (length-numbersFrom s (at + 6) n)
 
 pub length-valuesFrom : (s : List ℕ) (i n : ℕ) → length (valuesFrom s i n) ≡ n
 unfolding valuesFrom

@@ -5,6 +5,7 @@ pub mod Lengths
 pub mod Numbers
 pub mod Loops
 pub mod Form
+pub mod FormBefore
 pub mod Requests
 pub mod Answers
 pub mod Example

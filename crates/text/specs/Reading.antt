@@ -9,7 +9,7 @@ use lib.Dec.{leb, eqb}
 use Rattle.refusal.specs.Refusals.{fault, Answer, answer, answerAfter}
 use Rattle.text.specs.declared.Header.{Header}
 use Rattle.text.specs.declared.Header.the-variants.{Refused, Read}
-use Rattle.text.specs.Text.{requestText}
+use Rattle.text.specs.Text.{furtherNumbers, requestText}
 
 -- the digit in a column: 0 to 9 of bytes 48 to 57, and 0 of a space. Any other byte gives some digit too.
 abbrev pub digitAt : List ℕ → ℕ → ℕ
@@ -34,7 +34,12 @@ unfoldable pub valuesFrom : List ℕ → ℕ → ℕ → List ℕ
 valuesFrom values i zero = []
 valuesFrom values i (suc n) = valueAt values i ∷ valuesFrom values (suc i) n
 
--- the four numbers of line one, and the values, of a text
+-- the n numbers side by side from byte `at` on
+unfoldable pub numbersFrom : List ℕ → ℕ → ℕ → List ℕ
+numbersFrom s at zero = []
+numbersFrom s at (suc n) = numberAt s at ∷ numbersFrom s (at + 6) n
+
+-- the numbers of line one, and the values, of a text
 unfoldable pub kindOf : List ℕ → ℕ
 kindOf s = numberAt s 0
 
@@ -47,15 +52,26 @@ orderOf s = numberAt s 12
 unfoldable pub countOf : List ℕ → ℕ
 countOf s = numberAt s 18
 
+unfoldable pub furtherOf : List ℕ → List ℕ
+furtherOf s = numbersFrom s 24 (furtherNumbers (kindOf s))
+
+-- the budget, 0 where line one has none
+unfoldable pub budgetOf : List ℕ → ℕ
+budgetOf s = getD (furtherOf s) 0 0
+
 unfoldable pub lineOne : List ℕ → List ℕ
-lineOne s = kindOf s ∷ polynomialOf s ∷ orderOf s ∷ countOf s ∷ []
+lineOne s = kindOf s ∷ polynomialOf s ∷ orderOf s ∷ countOf s ∷ furtherOf s
+
+-- the bytes of line one, by the kind
+unfoldable pub lineOneLength : ℕ → ℕ
+lineOneLength kind = 25 + 6 * furtherNumbers kind
 
 unfoldable pub valuesOf : List ℕ → List ℕ
-valuesOf s = valuesFrom (drop 25 s) 0 (countOf s)
+valuesOf s = valuesFrom (drop (lineOneLength (kindOf s)) s) 0 (countOf s)
 
 -- the request text of the numbers read from a text
 unfoldable pub rewritten : List ℕ → List ℕ
-rewritten s = requestText (kindOf s) (polynomialOf s) (orderOf s) (valuesOf s)
+rewritten s = requestText (kindOf s) (polynomialOf s) (orderOf s) (furtherOf s) (valuesOf s)
 
 -- whether two lists of bytes are the same
 unfoldable pub sameBytes : List ℕ → List ℕ → Bool
@@ -68,11 +84,12 @@ sameBytes (a ∷ s) (b ∷ t) = eqb a b && sameBytes s t
 unfoldable pub inForm : List ℕ → Bool
 inForm s = leb (length s) 4096 && sameBytes s (rewritten s)
 
--- what the reading of line one says: 1 where the text is refused, else its four numbers
+-- what the reading of line one says: 1 where the text is refused, else kind, polynomial, order, count and budget
 abbrev pub saysHeader : Header → Answer (List ℕ)
 saysHeader Refused = answer 1 []
-saysHeader (Read kind polynomial order count) = answer 0 (kind ∷ polynomial ∷ order ∷ count ∷ [])
+saysHeader (Read kind polynomial order count budget) = answer 0 (kind ∷ polynomial ∷ order ∷ count ∷ budget ∷ [])
 
 -- line one of a text; 1: not of the form
 unfoldable pub headerAnswer : List ℕ → Answer (List ℕ)
-headerAnswer s = answerAfter [] (fault 1 (not (inForm s)) ∷ []) (lineOne s)
+headerAnswer s =
+    answerAfter [] (fault 1 (not (inForm s)) ∷ []) (kindOf s ∷ polynomialOf s ∷ orderOf s ∷ countOf s ∷ budgetOf s ∷ [])

@@ -41,10 +41,14 @@ unfoldable pub valueText : ℕ → List ℕ → List ℕ
 valueText i [] = []
 valueText i (v ∷ vs) = column v ++ lineEnd i (length vs) ++ valueText (suc i) vs
 
--- "request text": line one with kind, polynomial, order and count, then exactly count values
-unfoldable pub requestText : ℕ → ℕ → ℕ → List ℕ → List ℕ
-requestText kind polynomial order values =
-    lineText (kind ∷ polynomial ∷ order ∷ length values ∷ []) ++ valueText 0 values
+-- how many numbers stand in line one behind the count, by the kind: kind 6 has a budget there (document 02, Seven)
+unfoldable pub furtherNumbers : ℕ → ℕ
+furtherNumbers kind = cond (eqb kind 6) 1 0
+
+-- "request text": line one with kind, polynomial, order, count and the further numbers of the kind, then exactly count values
+unfoldable pub requestText : ℕ → ℕ → ℕ → List ℕ → List ℕ → List ℕ
+requestText kind polynomial order further values =
+    lineText (kind ∷ polynomial ∷ order ∷ length values ∷ further) ++ valueText 0 values
 
 -- "answer text": one line after the other
 unfoldable pub answerText : List (List ℕ) → List ℕ
@@ -60,7 +64,9 @@ pub record InForm (text : List ℕ) : Type 0 where
   pub kind : ℕ
   pub polynomial : ℕ
   pub order : ℕ
+  pub further : List ℕ
   pub values : List ℕ
-  pub six : SixDigits (kind ∷ polynomial ∷ order ∷ length values ∷ values)
-  pub is-text : text ≡ requestText kind polynomial order values
+  pub as-many : length further ≡ furtherNumbers kind
+  pub six : SixDigits (kind ∷ polynomial ∷ order ∷ length values ∷ further ++ values)
+  pub is-text : text ≡ requestText kind polynomial order further values
   pub short : length text ≤ 4096

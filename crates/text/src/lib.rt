@@ -5,16 +5,16 @@ ghost use mathlib.Core.List.{[], _∷_, _++_};
 ghost use mathlib.Core.Bool.{_||_};
 ghost use lib.Dec.{eqb};
 ghost use lib.ListN.{length};
-ghost use Rattle.text.specs.Text.{columnByte, column, lineText, lineEnd, valueText, SixDigits};
-ghost use Rattle.text.specs.Reading.{digitAt, numberAt, valueAt, valuesFrom, lineOne, rewritten, sameBytes, inForm, saysHeader, headerAnswer};
+ghost use Rattle.text.specs.Text.{columnByte, column, lineText, lineEnd, valueText, furtherNumbers, SixDigits};
+ghost use Rattle.text.specs.Reading.{digitAt, numberAt, valueAt, valuesFrom, kindOf, budgetOf, lineOne, lineOneLength, rewritten, sameBytes, inForm, saysHeader, headerAnswer};
 ghost use Rattle.text.specs.Writing.{Put};
 
-// The bytes of line one of a request text, the most bytes of a text, and the most values that such a text holds.
-pub const LINE_ONE: usize = 25;
-
+// The most bytes of a request text, the most values that such a text holds, and the most bytes of a text of so many values.
 pub const MOST_BYTES: usize = 4096;
 
 pub const MOST_VALUES: u32 = 671;
+
+const MOST_WRITTEN: usize = 4099;
 
 // Line one of a request text, or that the text is not in form.
 pub enum Header {
@@ -24,6 +24,7 @@ pub enum Header {
         polynomial: u32,
         order: u32,
         count: u32,
+        budget: u32,
     },
 }
 
@@ -110,6 +111,31 @@ fn number_at(text: &[u8], at: usize) -> u32
     high + middle + two_digits(text, at + 4)
 }
 
+// How many numbers stand in line one of a request text behind the count, by the kind.
+fn further_numbers(kind: u32) -> usize
+    ensures { λ r. ⌜ r ≡ furtherNumbers kind ⌝ }
+{
+    if kind == 6 { 1 } else { 0 }
+}
+
+// The bytes of line one of a request text, by the kind.
+pub fn line_one_length(kind: u32) -> usize
+    ensures { λ r. ⌜ r ≡ lineOneLength kind ⌝ }
+{
+    25 + 6 * further_numbers(kind)
+}
+
+// The budget in line one, 0 where it has none.
+fn budget_of(text: &[u8]) -> u32
+    ensures { λ r. ⌜ r ≡ budgetOf (now (text .entry)) ⌝ }
+{
+    if further_numbers(number_at(text, 0)) == 0 {
+        0
+    } else {
+        number_at(text, 24)
+    }
+}
+
 // Value i of the part of a request text that follows line one; what is not there is read as 0.
 pub fn value_at(values: &[u8], i: usize) -> u32
     ensures { λ r. ⌜ r ≡ valueAt (now (values .entry)) i ⌝ }
@@ -175,31 +201,33 @@ fn put_values(space: &mut [u8], at: usize, values: &[u8], count: usize) -> usize
 
 // Writes line one of the numbers read from a text.
 fn put_line_one(space: &mut [u8], text: &[u8]) -> usize
-    requires { ⌜ 25 ≤ length (now space) ⌝ }
+    requires { ⌜ lineOneLength (kindOf (now text)) ≤ length (now space) ⌝ }
     ensures { λ r. ⌜ Put (now (space .entry)) (now (space .exit)) 0 (lineText (lineOne (now (text .entry)))) r ⌝ }
 {
     let kind = number_at(text, 0);
     let polynomial = number_at(text, 6);
     let order = number_at(text, 12);
     let count = number_at(text, 18);
-    put_line(space, 0, &[kind, polynomial, order, count])
+    let numbers = [kind, polynomial, order, count, number_at(text, 24)];
+    put_line(space, 0, &numbers[..4 + further_numbers(kind)])
 }
 
 // Writes the request text of the numbers read from a text.
 fn rewrite(space: &mut [u8], text: &[u8]) -> usize
-    requires { ⌜ (25 ≤ length (now text)) × (length (rewritten (now text)) ≤ length (now space)) ⌝ }
+    requires { ⌜ (lineOneLength (kindOf (now text)) ≤ length (now text)) × (length (rewritten (now text)) ≤ length (now space)) ⌝ }
     ensures { λ r. ⌜ Put (now (space .entry)) (now (space .exit)) 0 (rewritten (now (text .entry))) r ⌝ }
 {
+    let line_one = line_one_length(number_at(text, 0));
     let count = number_at(text, 18);
     let next = put_line_one(space, text);
-    put_values(space, next, &text[LINE_ONE..], count as usize)
+    put_values(space, next, &text[line_one..], count as usize)
 }
 
 // Whether a text is the request text of the numbers read from it, with at most 4,096 bytes.
 pub fn in_form(text: &[u8]) -> bool
     ensures { λ r. ⌜ r ≡ inForm (now (text .entry)) ⌝ }
 {
-    if text.len() < LINE_ONE {
+    if text.len() < line_one_length(number_at(text, 0)) {
         return false;
     }
     if MOST_BYTES < text.len() {
@@ -208,7 +236,7 @@ pub fn in_form(text: &[u8]) -> bool
     if MOST_VALUES < number_at(text, 18) {
         return false;
     }
-    let mut again = [0u8; MOST_BYTES];
+    let mut again = [0u8; MOST_WRITTEN];
     let n = rewrite(&mut again, text);
     same_bytes(text, &again[..n])
 }
@@ -223,6 +251,7 @@ pub fn read_header(text: &[u8]) -> Header
             polynomial: number_at(text, 6),
             order: number_at(text, 12),
             count: number_at(text, 18),
+            budget: budget_of(text),
         }
     } else {
         Header::Refused

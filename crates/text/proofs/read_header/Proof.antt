@@ -6,7 +6,7 @@ use mathlib.Core.Bool.{not}
 use mathlib.Core.List.{[]}
 use Rattle.refusal.specs.declared.Refusal.the-variants.{Form}
 use Rattle.refusal.proofs.Faults.{after-taken, after-left, after-empty}
-use Rattle.text.specs.Reading.{lineOne, kindOf, polynomialOf, orderOf, countOf, headerAnswer}
+use Rattle.text.specs.Reading.{kindOf, polynomialOf, orderOf, countOf, headerAnswer}
 use Rattle.text.proofs.read_header.Statement.{statement}
 use Rattle.text.proofs.read_header.Tie as tie
 
@@ -25,13 +25,17 @@ number-at-requires-3 c κs = search needs
 number-at-requires-4 : tie.Need-number-at-requires-4
 number-at-requires-4 c κs = search needs
 
+budget-of-requires : tie.Need-budget-of-requires
+budget-of-requires c κs = search needs
+
 returns : tie.Need-returns
-unfolding headerAnswer lineOne kindOf polynomialOf orderOf countOf
+unfolding headerAnswer kindOf polynomialOf orderOf countOf
 returns c =
-    let third = c .before in
+    let fourth = c .before in
+    let third = fourth .before in
     let second = third .before in
     let first = second .before in
-    rw (first .number-at .ensures, second .number-at2 .ensures, third .number-at3 .ensures, c .number-at4 .ensures)
+    rw (first .number-at .ensures, second .number-at2 .ensures, third .number-at3 .ensures, fourth .number-at4 .ensures, c .budget-of .ensures)
     (after-empty [] _ ∙ after-left [] _ 1 _ [] (ap not (sym (first .before .before .in-form .ensures) ∙ first .before .if1 .taken)))
 
 returns-2 : tie.Need-returns-2
@@ -47,5 +51,6 @@ read-header-spec =
     number-at-requires-2
     number-at-requires-3
     number-at-requires-4
+    budget-of-requires
     returns
     returns-2)
