@@ -45,6 +45,10 @@ candidatesIn bytes = take (secondIn bytes) (take 64 (drop 16 bytes) ++ replicate
 unfoldable pub inputIn : List ℕ → List ℕ
 inputIn bytes = wordsAt bytes 80
 
+-- the same bytes as the budget of a walk
+abbrev pub budgetIn : List ℕ → ℕ
+budgetIn bytes = fourBytes bytes 80 + fourBytes bytes 84 * 2 ^ 32
+
 -- ---- the answer
 
 -- byte k of a number, the lowest at 0

@@ -1,6 +1,6 @@
 -- What is replied to a record, by the number of its call: what the contracts of the library say that the call yields. Assumes nothing.
 use mathlib.Core.List.{List, [], _∷_, _++_, map}
-use Prim.Native.Nat.{ℕ, _-_}
+use Prim.Native.Nat.{ℕ, _-_, _%_, _^_}
 use lib.ListN.{getD, replicate}
 use Rattle.refusal.specs.Refusals.{Answer, answer, answerAfter}
 use Rattle.algebra.specs.Matrix.{apply, hadamard, det, branchNumber, isMds, isInvolution}
@@ -11,7 +11,8 @@ use Rattle.lines.specs.Counts.{rowCount, matrixCount}
 use Rattle.checks.specs.Answers.{yesNo, determinantFaults, matrixFaults, rowFaults, plainFaults, halvedFaults, checkOf}
 use Rattle.rows.specs.declared.Family.the-variants.{Hadamard, Circulant}
 use Rattle.search.specs.Answer.{RowFound, searchAnswer}
-use Rattle.calls.specs.Records.{callIn, polynomialIn, firstIn, secondIn, matrixIn, inputIn, candidatesIn}
+use Rattle.walk.specs.Answer.{WalkFound, walkAnswer}
+use Rattle.calls.specs.Records.{callIn, polynomialIn, firstIn, secondIn, matrixIn, inputIn, candidatesIn, budgetIn}
 
 -- ---- the reply: the number that is returned, four values and eight words; what a call does not yield is 0
 
@@ -26,6 +27,10 @@ checkReply a = a .number ∷ a .value ++ replicate 8 0
 
 abbrev pub searchReply : Answer RowFound → List ℕ
 searchReply a = a .number ∷ a .value .sum ∷ 0 ∷ 0 ∷ 0 ∷ a .value .row
+
+-- of the rows tried the low 32 bits; no brief has 2 ^ 32 rows
+abbrev pub walkReply : Answer WalkFound → List ℕ
+walkReply a = a .number ∷ a .value .finished ∷ a .value .tried % 2 ^ 32 ∷ a .value .count ∷ a .value .bound ∷ a .value .row
 
 -- ---- the calls, each at its number
 
@@ -53,9 +58,10 @@ valueAnswers p a b m x =
 abbrev pub eightWords : ℕ → List ℕ → List ℕ
 eightWords n words = words ++ replicate (8 - n) 0
 
--- behind them 11 plain product, 12 halved product of the row that is the first line of the matrix, 13 check, 14 search, 15 search for a circulant matrix
-unfoldable pub replies : ℕ → ℕ → ℕ → List (List ℕ) → List ℕ → List ℕ → List (List ℕ)
-replies p a b m x candidates =
+-- behind them 11 plain product, 12 halved product of the row that is the first line of the matrix, 13 check, 14 search, 15 search for a circulant
+-- matrix, 16 walk
+unfoldable pub replies : ℕ → ℕ → ℕ → List (List ℕ) → List ℕ → List ℕ → ℕ → List (List ℕ)
+replies p a b m x candidates budget =
     let row = getD m 0 [] in
     map valueReply (valueAnswers p a b m x)
     ++ wordsReply (answerAfter (replicate 8 0) (plainFaults p a (entry m) x) (eightWords a (apply (numbers p) a (entry m) x)))
@@ -63,12 +69,14 @@ replies p a b m x candidates =
     ∷ checkReply (answerAfter (replicate 4 0) (matrixFaults p a (entry m)) (checkOf p a (entry m)))
     ∷ searchReply (searchAnswer Hadamard p a candidates)
     ∷ searchReply (searchAnswer Circulant p a candidates)
+    ∷ walkReply (walkAnswer p a candidates budget)
     ∷ []
 
 -- the reply to a call; to a number that no call has, nothing
-unfoldable pub replyTo : ℕ → ℕ → ℕ → ℕ → List (List ℕ) → List ℕ → List ℕ → List ℕ
-replyTo call p a b m x candidates = getD (replies p a b m x candidates) call (valueReply noAnswer)
+unfoldable pub replyTo : ℕ → ℕ → ℕ → ℕ → List (List ℕ) → List ℕ → List ℕ → ℕ → List ℕ
+replyTo call p a b m x candidates budget = getD (replies p a b m x candidates budget) call (valueReply noAnswer)
 
 -- the reply to a record
 unfoldable pub replyOf : List ℕ → List ℕ
-replyOf bytes = replyTo (callIn bytes) (polynomialIn bytes) (firstIn bytes) (secondIn bytes) (matrixIn bytes) (inputIn bytes) (candidatesIn bytes)
+replyOf bytes =
+    replyTo (callIn bytes) (polynomialIn bytes) (firstIn bytes) (secondIn bytes) (matrixIn bytes) (inputIn bytes) (candidatesIn bytes) (budgetIn bytes)

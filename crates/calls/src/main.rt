@@ -8,8 +8,9 @@ ghost use lib.ListN.{length, take, drop, replicate, getD};
 ghost use Rattle.refusal.specs.Refusals.{answerOf};
 ghost use Rattle.checks.specs.Answers.{wordsOf, checkedOf};
 ghost use Rattle.search.specs.Answer.{saysSearch};
-ghost use Rattle.calls.specs.Records.{fourBytes, wordsAt, matrixIn, byteOf, asBytes};
-ghost use Rattle.calls.specs.Replies.{valueReply, wordsReply, checkReply, searchReply, noAnswer, valueAnswers, replyTo, replyOf};
+ghost use Rattle.walk.specs.Answer.{saysWalk};
+ghost use Rattle.calls.specs.Records.{fourBytes, wordsAt, matrixIn, budgetIn, byteOf, asBytes};
+ghost use Rattle.calls.specs.Replies.{valueReply, wordsReply, checkReply, searchReply, walkReply, noAnswer, valueAnswers, replyTo, replyOf};
 use refusal::Outcome;
 
 // ---- a record
@@ -75,6 +76,16 @@ fn widened(bytes: &[u8]) -> [u32; 256]
     values
 }
 
+// The budget of a record.
+fn budget_of(bytes: &[u8]) -> u64
+    requires { ⌜ 88 ≤ length (now bytes) ⌝ }
+    ensures { λ r. ⌜ r ≡ budgetIn (now (bytes .entry)) ⌝ }
+{
+    let low = number_at(bytes, 80);
+    let high = number_at(bytes, 84);
+    low as u64 + (high as u64) * 4294967296
+}
+
 // ---- what a call yields
 
 // The number that is returned.
@@ -97,16 +108,23 @@ fn value_in(outcome: Outcome) -> u32
     }
 }
 
-// A reply with one value and eight words.
-fn reply_with(number: u32, value: u32, words: [u8; 8]) -> [u32; 13]
-    ensures { λ r. ⌜ r ≡ number ∷ value ∷ 0 ∷ 0 ∷ 0 ∷ words ⌝ }
+// A reply with four values and eight words.
+fn reply_with(
+    number: u32,
+    first: u32,
+    second: u32,
+    third: u32,
+    fourth: u32,
+    words: [u8; 8],
+) -> [u32; 13]
+    ensures { λ r. ⌜ r ≡ number ∷ first ∷ second ∷ third ∷ fourth ∷ words ⌝ }
 {
     [
         number,
-        value,
-        0,
-        0,
-        0,
+        first,
+        second,
+        third,
+        fourth,
         wide(words[0]),
         wide(words[1]),
         wide(words[2]),
@@ -121,7 +139,7 @@ fn reply_with(number: u32, value: u32, words: [u8; 8]) -> [u32; 13]
 fn value_reply(outcome: Outcome) -> [u32; 13]
     ensures { λ r. ⌜ r ≡ valueReply (answerOf outcome) ⌝ }
 {
-    reply_with(number_in(outcome), value_in(outcome), [0; 8])
+    reply_with(number_in(outcome), value_in(outcome), 0, 0, 0, [0; 8])
 }
 
 fn words_reply(told: checks::Words) -> [u32; 13]
@@ -129,7 +147,7 @@ fn words_reply(told: checks::Words) -> [u32; 13]
 {
     let outcome = told.outcome;
     let words = told.words;
-    reply_with(number_in(outcome), 0, words)
+    reply_with(number_in(outcome), 0, 0, 0, 0, words)
 }
 
 fn search_reply(told: search::SearchResult) -> [u32; 13]
@@ -137,7 +155,23 @@ fn search_reply(told: search::SearchResult) -> [u32; 13]
 {
     let outcome = told.outcome;
     let row = told.row;
-    reply_with(number_in(outcome), value_in(outcome), row)
+    reply_with(number_in(outcome), value_in(outcome), 0, 0, 0, row)
+}
+
+fn walk_reply(told: walk::WalkResult) -> [u32; 13]
+    ensures { λ r. ⌜ r ≡ walkReply (saysWalk told) ⌝ }
+{
+    let outcome = told.outcome;
+    let row = told.row;
+    let tried = (told.tried % 4294967296) as u32;
+    reply_with(
+        number_in(outcome),
+        value_in(outcome),
+        tried,
+        told.count,
+        told.bound,
+        row,
+    )
 }
 
 fn check_reply(told: checks::Checked) -> [u32; 13]
@@ -192,8 +226,9 @@ fn reply_to(
     m: [[u8; 8]; 8],
     x: [u8; 8],
     candidates: &[u32],
+    budget: u64,
 ) -> [u32; 13]
-    ensures { λ r. ⌜ r ≡ replyTo call p a b m x (now (candidates .entry)) ⌝ }
+    ensures { λ r. ⌜ r ≡ replyTo call p a b m x (now (candidates .entry)) budget ⌝ }
 {
     match call {
         11 => words_reply(checks::checked_plain(p, m, x, a)),
@@ -204,6 +239,7 @@ fn reply_to(
         13 => check_reply(checks::checked_check(p, m, a)),
         14 => search_reply(search::search(p, a, candidates)),
         15 => search_reply(search::search_circulant(p, a, candidates)),
+        16 => walk_reply(walk::best_yet(p, a, candidates, budget)),
         _ => value_reply(value_call(call, p, a, b, m, x)),
     }
 }
@@ -228,7 +264,8 @@ fn reply_of(bytes: &[u8]) -> [u32; 13]
     let x = words_at(bytes, 80);
     let values = widened(bytes);
     let count = at_most(b);
-    reply_to(call, p, a, b, m, x, &values[..count])
+    let budget = budget_of(bytes);
+    reply_to(call, p, a, b, m, x, &values[..count], budget)
 }
 
 // ---- the answer

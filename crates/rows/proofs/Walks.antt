@@ -36,6 +36,11 @@ use Rattle.rows.proofs.Arrangements.{mem-differing, mem-arrangements, r
 
 -- ---- any rows
 
+-- a walk tries as many rows as its budget says, or all
+pub rows-tried : (p n : ℕ) (cs : List ℕ) (b : ℕ) → walkOf p n cs b .rowsTried ≡ min b (length (arrangements p n cs))
+unfolding walkOf walkOver
+rows-tried p n cs b = refl
+
 -- walks that agree in all they tell
 same-walked : {tried tried′ : ℕ} {over over′ : Bool} {kept kept′ : Best} → tried ≡ tried′ → over ≡ over′ → kept ≡ kept′
     → _≡_ {A = Walked} (record { rowsTried = tried; finished = over; best = kept }) (record { rowsTried = tried′; finished = over′; best = kept′ })
@@ -102,11 +107,6 @@ module _ (p n : ℕ) (cs : List ℕ) where
 
   abbrev good : List ℕ → Bool
   good = isGood hadamardShape p n
-
-  -- it tries as many rows as its budget says, or all
-  pub rows-tried : (b : ℕ) → walkOf p n cs b .rowsTried ≡ min b (length (arrangements p n cs))
-  unfolding walkOf walkOver
-  rows-tried b = refl
 
   -- it is finished exactly if every row has been tried
   pub finished-exactly : (b : ℕ) → (walkOf p n cs b .finished ≡ true) ↔ (walkOf p n cs b .rowsTried ≡ length (arrangements p n cs))

@@ -35,6 +35,9 @@ widened-requires c κs = search needs
 at-most-requires : tie.Need-at-most-requires
 at-most-requires c κs = search needs
 
+budget-of-requires : tie.Need-budget-of-requires
+budget-of-requires c κs = search needs
+
 array-share-prefix-values : tie.Need-array-share-prefix-values
 array-share-prefix-values c = search needs
 
@@ -50,7 +53,8 @@ size c = search needs
 returns : tie.Need-returns
 unfolding replyOf callIn polynomialIn firstIn secondIn inputIn candidatesIn
 returns c =
-    let count = c .before .before in
+    let budget = c .before .before in
+    let count = budget .before in
     let values = count .before in
     let words = values .before in
     let lines = words .before in
@@ -69,6 +73,7 @@ returns c =
     (ap (λ (n : ℕ). take n (values .widened .result)) (count .at-most .ensures)
     ∙ at-most-all (values .widened .result) (second .number-at4 .result) (size values)
     ∙ ap₂ take (second .number-at4 .ensures) (values .widened .ensures))
+    (budget .budget-of .ensures)
 
 pub reply-of-spec : {M : Type 1} → statement M
 reply-of-spec =
@@ -82,6 +87,7 @@ reply-of-spec =
     words-at-requires
     widened-requires
     at-most-requires
+    budget-of-requires
     array-share-prefix-values
     slice-aggregate-reply-to
     reply-to-requires

@@ -5,7 +5,7 @@ use Prim.Native.Nat.{ℕ, zero, suc, _+_, _<_}
 use native.Mathlib.Omega.{arith}
 use lib.ListN.{drop}
 use denote.Ref.{now}
-use Rattle.calls.specs.Replies.{valueReply, wordsReply, checkReply, searchReply, noAnswer, valueAnswers, replies, replyTo}
+use Rattle.calls.specs.Replies.{valueReply, wordsReply, checkReply, searchReply, walkReply, noAnswer, valueAnswers, replies, replyTo}
 use Rattle.calls.proofs.Numbered.{at-number, values-kept}
 use borrow.Author.Needs.{needs}
 use Rattle.calls.proofs.reply_to.Statement.{statement}
@@ -13,7 +13,7 @@ use Rattle.calls.proofs.reply_to.Tie as tie
 
 -- the replies of all calls
 abbrev listed : tie.Start → List (List ℕ)
-listed s = replies (s .args .p) (s .args .a) (s .args .b) (s .args .t5) (s .args .x) (now (s .args .candidates))
+listed s = replies (s .args .p) (s .args .a) (s .args .b) (s .args .t5) (s .args .x) (now (s .args .candidates)) (s .args .budget)
 
 checked-plain-requires : tie.Need-checked-plain-requires
 checked-plain-requires c κs = search needs
@@ -47,6 +47,12 @@ search-circulant-requires c κs = search needs
 
 search-reply-requires-2 : tie.Need-search-reply-requires-2
 search-reply-requires-2 c κs = search needs
+
+best-yet-requires : tie.Need-best-yet-requires
+best-yet-requires c κs = search needs
+
+walk-reply-requires : tie.Need-walk-reply-requires
+walk-reply-requires c κs = search needs
 
 value-call-requires : tie.Need-value-call-requires
 value-call-requires c κs = search needs
@@ -94,24 +100,34 @@ returns-5 c =
     at-number (listed (matched .before .before)) (valueReply noAnswer) (matched .match .keys5)
     (c .search-reply2 .ensures ∙ ap searchReply (called .search-circulant .ensures))
 
--- a call that is none of the five behind the values
-none-of : (call : ℕ) → (call ≡ 11 → ⊥) → (call ≡ 12 → ⊥) → (call ≡ 13 → ⊥) → (call ≡ 14 → ⊥) → (call ≡ 15 → ⊥) → (k : ℕ) → k < 5 → call ≡ 11 + k → ⊥
-none-of call a b c d e zero l q = a (omega arith)
-none-of call a b c d e (suc zero) l q = b (omega arith)
-none-of call a b c d e (suc (suc zero)) l q = c (omega arith)
-none-of call a b c d e (suc (suc (suc zero))) l q = d (omega arith)
-none-of call a b c d e (suc (suc (suc (suc k)))) l q = e (omega arith)
-
 returns-6 : tie.Need-returns-6
 unfolding replyTo replies valueAnswers
 returns-6 c =
+    let called = c .before in
+    let matched = called .before in
+    at-number (listed (matched .before .before)) (valueReply noAnswer) (matched .match .keys6)
+    (c .walk-reply .ensures ∙ ap walkReply (called .best-yet .ensures))
+
+-- a call that is none of the six behind the values
+none-of : (call : ℕ) → (call ≡ 11 → ⊥) → (call ≡ 12 → ⊥) → (call ≡ 13 → ⊥) → (call ≡ 14 → ⊥) → (call ≡ 15 → ⊥) → (call ≡ 16 → ⊥)
+    → (k : ℕ) → k < 6 → call ≡ 11 + k → ⊥
+none-of call a b c d e f zero l q = a (omega arith)
+none-of call a b c d e f (suc zero) l q = b (omega arith)
+none-of call a b c d e f (suc (suc zero)) l q = c (omega arith)
+none-of call a b c d e f (suc (suc (suc zero))) l q = d (omega arith)
+none-of call a b c d e f (suc (suc (suc (suc zero)))) l q = e (omega arith)
+none-of call a b c d e f (suc (suc (suc (suc (suc k))))) l q = f (omega arith)
+
+returns-7 : tie.Need-returns-7
+unfolding replyTo replies valueAnswers
+returns-7 c =
     let called = c .before in
     let start = called .before .before .before in
     let other = called .before .match .rest in
     c .value-reply .ensures
     ∙ ap valueReply (called .value-call .ensures)
     ∙ values-kept (valueAnswers (start .args .p) (start .args .a) (start .args .b) (start .args .t5) (start .args .x)) (drop 11 (listed start)) (start .args .call)
-    (none-of (start .args .call) (other .0 .0 .0 .0 .1) (other .0 .0 .0 .1) (other .0 .0 .1) (other .0 .1) (other .1))
+    (none-of (start .args .call) (other .0 .0 .0 .0 .0 .1) (other .0 .0 .0 .0 .1) (other .0 .0 .0 .1) (other .0 .0 .1) (other .0 .1) (other .1))
 
 pub reply-to-spec : {M : Type 1} → statement M
 reply-to-spec =
@@ -128,6 +144,8 @@ reply-to-spec =
     search-reply-requires
     search-circulant-requires
     search-reply-requires-2
+    best-yet-requires
+    walk-reply-requires
     value-call-requires
     value-reply-requires
     returns
@@ -135,4 +153,5 @@ reply-to-spec =
     returns-3
     returns-4
     returns-5
-    returns-6)
+    returns-6
+    returns-7)

@@ -56,7 +56,7 @@ array-read-wide-8 c = search needs
 wide-requires-8 : tie.Need-wide-requires-8
 wide-requires-8 c κs = search needs
 
-eight : (c : tie.Start) → length (c .args .t3) ≡ 8
+eight : (c : tie.Start) → length (c .args .t6) ≡ 8
 eight c = search needs
 
 returns : tie.Need-returns
@@ -69,8 +69,8 @@ returns c =
     let two = three .before in
     let one = two .before in
     let a = one .before .args in
-    ap (λ (l : List ℕ). a .number ∷ a .value ∷ 0 ∷ 0 ∷ 0 ∷ l)
-    (eight-words (a .t3) (eight (one .before))
+    ap (λ (l : List ℕ). a .number ∷ a .first ∷ a .second ∷ a .third ∷ a .fourth ∷ l)
+    (eight-words (a .t6) (eight (one .before))
     (one .wide .ensures .0)
     (two .wide2 .ensures .0)
     (three .wide3 .ensures .0)
