@@ -13,9 +13,9 @@
 extern "C" {
 #endif
 
-/* Stack: a call takes at most 78 KiB, most of it for a table of products. A thread whose stack has ROWFIND_STACK bytes can make
+/* Stack: a call takes at most 141 KiB, most of it for tables of products. A thread whose stack has ROWFIND_STACK bytes can make
  * every call and has some left for its own. Both are measured, not proved: bindings/c/test holds the library to them. */
-#define ROWFIND_STACK (96 * 1024)
+#define ROWFIND_STACK (160 * 1024)
 
 /* No answer has more bytes, so a space of this length is never too short. Gate lists (kind 4) are the longest answers; those of
  * the other kinds have at most 583. */

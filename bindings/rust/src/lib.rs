@@ -2,7 +2,7 @@
 //! threads at once.
 
 /// Bytes of stack with which a thread can make every call: ROWFIND_STACK of include/rowfind.h.
-pub const STACK: usize = 96 * 1024;
+pub const STACK: usize = 160 * 1024;
 
 /// No answer has more bytes: ROWFIND_LONGEST_ANSWER of include/rowfind.h.
 pub const LONGEST_ANSWER: usize = 52_877;

@@ -1,54 +1,36 @@
 -- The walk of a brief: its letters, its start, and what it answers where it stands. Assumes nothing.
-use mathlib.Core.Path.{_≡_, refl, sym, ap, ap₂, subst, _∙_}
-use mathlib.Core.Bool.{Bool, true, false, cond, _&&_}
-use mathlib.Core.List.{List, [], _∷_, _++_, List·Memᴰ}
+use mathlib.Core.Path.{_≡_, refl, sym, ap, subst, _∙_}
+use mathlib.Core.Bool.{false}
+use mathlib.Core.List.{List, List·Memᴰ}
 use Prim.Native.Nat.{ℕ, suc, _+_, _-_, _^_, _≤_, _<_, min}
-use native.Mathlib.Nat.{add-zero}
 use native.Mathlib.Omega.{arith}
 use native.Mathlib.Decide.{decLt}
-use lib.Dec.{eqb, leb}
 use lib.ListN.{length, getD, take, replicate}
-use lib.Seq.{getD-take}
-use borrow.Author.Tests.{eq-eqb, ne-eqb, le-leb, lt-leb}
-use Rattle.refusal.specs.Refusals.{fault, Answer, answer, answerAfter}
-use Rattle.refusal.specs.declared.Refusal.the-variants.{NoRow}
-use Rattle.refusal.proofs.Faults.{after-taken, after-left, after-empty}
 use Rattle.algebra.specs.Matrix.{tabulate}
 use Rattle.algebra.proofs.Words.{length-tabulate, tabulate-mem}
 use Rattle.field.specs.Polynomial.{Modulus, degree}
 use Rattle.field.proofs.Calls.{elements-most}
-use Rattle.lines.specs.Counts.{elementCount, additionCount, rowCount}
 use Rattle.lines.specs.Numbers.{WordsInField}
-use Rattle.lines.proofs.Tallies.{elementCount-le, additionCount-cong}
-use Rattle.rows.specs.Lightest.{Best, nothing, found, ascending, lightest, keepAll, rowsOver}
-use Rattle.rows.specs.Shape.{isGood, hadamardShape}
-use Rattle.rows.specs.Keys.{sumOf, keyOf}
+use Rattle.rows.specs.Lightest.{nothing, found, lightest, keepAll}
 use Rattle.rows.specs.Candidates.{someTooLarge, someBad}
-use Rattle.rows.specs.Demands.{countOfRow}
-use Rattle.rows.specs.Walks.{Walked, walkOver, walkOf, arrangements, lowerBound}
+use Rattle.rows.specs.Walks.{lowerBound}
 use Rattle.rows.specs.Steps.Orders.{SearchOrder}
 use Rattle.rows.proofs.Rows.{mem-ascending, getD-mem}
-use Rattle.rows.proofs.Walks.{walk-on}
-use Rattle.lightest.specs.declared.Best.{Best as Kept}
 use Rattle.lightest.specs.declared.letters.Letters.{Letters}
 use Rattle.lightest.specs.Steps.Letters.{countTable, known, listed}
-use Rattle.lightest.specs.Steps.Prefix.{kept, bestAs}
+use Rattle.lightest.specs.Steps.Prefix.{kept}
 use Rattle.lightest.proofs.LetterCounts.{known-ascending, listed-take, member-nonzero}
-use Rattle.lightest.proofs.Prefixes.{best-found, best-none, best-is}
 use Rattle.lightest.proofs.Start.{table-same}
-use Rattle.search.specs.Answer.{isNone}
 use Rattle.walk.specs.declared.Position.{Position}
 use Rattle.walk.specs.declared.Walk.{Walk}
-use Rattle.walk.specs.Answer.{bestCount, bestRow, WalkFound, noWalk, walkFound}
-use Rattle.walk.specs.Steps.Successors.{Ascend, rankTable, firstRow, eight}
+use Rattle.walk.specs.Steps.Successors.{Ascend, firstRow, eight}
 use Rattle.walk.specs.Steps.Bound.{boundOf}
-use Rattle.walk.specs.Steps.Positions.{rowsOf, positionAt, Lettered, StandsAt, lettersOf, walkedOf, IsWalk, walkAt}
+use Rattle.walk.specs.Steps.Positions.{rowsOf, positionAt, Lettered, IsWalk, walkAt}
 use Rattle.walk.proofs.Successors.{places-le, sorted-different}
 use Rattle.walk.proofs.Ranks.{sorted-ascend}
 use Rattle.walk.proofs.Behind.{row-first}
-use Rattle.walk.proofs.Filling.{eight-zeros}
 use Rattle.walk.proofs.EightSmallest.{bound-of}
-use Rattle.walk.proofs.Positions.{letters-own, letters-sorted, letters-below, letters-bytes, asPosition, bestAfter, best-long, position-tried, position-stands, position-left, position-over}
+use Rattle.walk.proofs.Positions.{letters-own, letters-sorted, letters-below, letters-bytes, asPosition, position-tried, position-stands, same-position}
 
 -- ---- the letters of a brief
 
@@ -138,3 +120,16 @@ walk-begun {p} {n} {table} b first e budget walk d =
     start : walkAt (walkAt p n table 0 .polynomial) (walkAt p n table 0 .order) (walkAt p n table 0 .counts) (walkAt p n table 0 .position .tried + budget)
         ≡ walkAt p n table (min 0 (length (rowsOf (known table (2 ^ degree p)) n)) + budget)
     start = unfold walkAt positionAt in refl
+
+-- to go on from where a walk stands is to have the summed budget: the walk is fixed by its brief and the rows tried
+pub walk-goes-on : {p n : ℕ} {table : List ℕ} → Lettered p n (known table (2 ^ degree p)) table → (t c : ℕ)
+    → walkAt p n table (walkAt p n table t .position .tried + c) ≡ walkAt p n table (t + c)
+unfolding walkAt
+walk-goes-on {p} {n} {table} b t c =
+    let letters = known table (2 ^ degree p) in
+    let tried = position-tried b t in
+    ap (asWalk p n table)
+    (elim (decLt (length (rowsOf letters n)) t) [
+      | yes h ↦ same-position b (positionAt p n letters t .tried + c) (t + c) (omega arith) (omega arith)
+      | no h ↦ let same : positionAt p n letters t .tried + c ≡ t + c = omega arith in ap (positionAt p n letters) same
+    ])

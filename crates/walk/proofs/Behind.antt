@@ -1,6 +1,6 @@
 -- The list of all rows of different letters: the code's first row is its first, and the row that the code finds behind a row is the next of the list.
 -- Assumes nothing.
-use mathlib.Core.Path.{_≡_, refl, sym, ap, subst, _∙_}
+use mathlib.Core.Path.{_≡_, refl, sym, ap, _∙_}
 use mathlib.Core.Logic.{_↔_}
 use mathlib.Core.List.{List, [], _∷_, List·Memᴰ, Memᴰ·cast}
 use Prim.Native.Nat.{ℕ, zero, suc, _≤_, _<_}
@@ -8,7 +8,6 @@ use native.Mathlib.Decide.{decLt}
 use native.Mathlib.Omega.{arith}
 use lib.ListN.{length, getD, replicate, List·getD-eq-default}
 use Rattle.rows.specs.Lightest.{Earlier}
-use Rattle.rows.specs.Walks.{differing}
 use Rattle.rows.proofs.Rows.{Sorted, getD-mem, mem-at}
 use Rattle.rows.proofs.Arrangements.{mem-arranged, repeated-exactly, sorted-arranged, sorted-first, sorted-next, sorted-last, few-arranged}
 use Rattle.walk.specs.Steps.Successors.{rowBehind, firstRow}

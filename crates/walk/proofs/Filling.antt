@@ -1,15 +1,13 @@
 -- The array of a row while it is filled up, and while a place to raise is looked for. Assumes nothing.
 use mathlib.Core.Path.{_≡_, refl, sym, ap, _∙_}
-use mathlib.Core.Bool.{false, true}
 use mathlib.Core.List.{List, [], _∷_, _++_}
-use Prim.Native.Nat.{ℕ, zero, suc, _+_, _-_, _≤_, _<_}
+use Prim.Native.Nat.{ℕ, suc, _+_, _-_, _≤_, _<_}
 use native.Mathlib.Numerals.{add-one}
 use native.Mathlib.Omega.{arith}
-use lib.Dec.{eqb}
 use lib.ListN.{length, getD, take, drop, set, replicate, length-replicate, replicate-append-replicate, take-append-drop}
 use lib.Seq.{take-suc-set, take-take, getD-take, drop-at}
 use borrow.Author.Tests.{eq-eqb, ne-eqb}
-use Rattle.walk.specs.Steps.Successors.{freeAbove, eight, filledUp, raisedOr, raisedBelow, rowBehind}
+use Rattle.walk.specs.Steps.Successors.{freeAbove, eight, filledUp, raisedOr, raisedBelow}
 
 module _ (letters : List ℕ) where
   -- one letter more

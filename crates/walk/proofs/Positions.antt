@@ -1,16 +1,14 @@
 -- Where a walk stands: one step leads from the position after t rows to that after t + 1, and behind the last row nothing moves.
 -- Assumes nothing.
 use mathlib.Core.Path.{_≡_, refl, sym, ap, subst, _∙_}
-use mathlib.Core.Logic.{⊎-elim}
-use mathlib.Core.Bool.{true}
-use mathlib.Core.List.{List, [], _++_, List·Memᴰ}
-use Prim.Native.Nat.{ℕ, zero, suc, _+_, _-_, _^_, _≤_, _<_, min}
+use mathlib.Core.List.{List, [], List·Memᴰ}
+use Prim.Native.Nat.{ℕ, suc, _+_, _-_, _^_, _≤_, _<_, min}
 use native.Mathlib.Omega.{arith}
 use native.Mathlib.Decide.{decLt}
 use lib.ListN.{length, getD, take, drop, replicate, length-replicate, getD-replicate, List·getD-append, List·getD-eq-default}
 use lib.Seq.{take-at, drop-at, take-all}
 use Rattle.algebra.specs.Matrix.{words}
-use Rattle.field.specs.Polynomial.{Modulus, degree}
+use Rattle.field.specs.Polynomial.{degree}
 use Rattle.field.proofs.Calls.{elements-most}
 use Rattle.lines.specs.Numbers.{WordsInField}
 use Rattle.lines.specs.Steps.Figures.{CountsOf}
@@ -18,7 +16,6 @@ use Rattle.rows.specs.Lightest.{Best, ascending, rowsOver, Earlier, lightest, k
 use Rattle.rows.specs.Shape.{isGood, hadamardShape}
 use Rattle.rows.specs.Keys.{keyOf}
 use Rattle.rows.specs.Walks.{differing, arrangements}
-use Rattle.rows.specs.Steps.Orders.{SearchOrder}
 use Rattle.rows.proofs.Rows.{Sorted, sorted-ascending, mem-ascending, getD-mem, member-mem}
 use Rattle.rows.proofs.Lightest.{row-sorted}
 use Rattle.rows.proofs.Arrangements.{sorted-arrangements, sorted-take, take-mem, arranged-fits}
@@ -27,13 +24,13 @@ use Rattle.cuts.specs.Steps.Cuts.{tried}
 use Rattle.cuts.specs.Steps.Families.{hadamardCuts}
 use Rattle.cuts.proofs.HadamardCuts.{order-most, order-least}
 use Rattle.cuts.proofs.WalkCuts.{tried-walked}
-use Rattle.lightest.specs.Steps.Letters.{countTable, known}
+use Rattle.lightest.specs.Steps.Letters.{known}
 use Rattle.lightest.specs.Steps.Prefix.{kept, bestAs}
 use Rattle.lightest.proofs.LetterCounts.{known-ascending, table-count}
 use Rattle.lightest.proofs.Prefixes.{Long, best-is, kept-own}
 use Rattle.lightest.specs.declared.Best.{Best as Kept}
 use Rattle.walk.specs.declared.Position.{Position}
-use Rattle.walk.specs.Steps.Successors.{Ascend, Ranked, rankTable, rowBehind, eight}
+use Rattle.walk.specs.Steps.Successors.{Ranked, rankTable, rowBehind, eight}
 use Rattle.walk.specs.Steps.Judging.{Judging}
 use Rattle.walk.specs.Steps.Positions.{rowsOf, positionAt, Lettered, Tabled, StandsAt}
 use Rattle.walk.proofs.Successors.{Arranged}

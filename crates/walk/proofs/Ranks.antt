@@ -8,12 +8,11 @@ use native.Mathlib.Omega.{arith}
 use lib.Dec.{ltb}
 use lib.ListN.{length, getD}
 use borrow.Author.Tests.{ltb-true, ltb-false}
-use Rattle.algebra.specs.Matrix.{tabulate}
 use Rattle.algebra.proofs.Words.{getD-tabulate}
 use Rattle.rows.proofs.Rows.{Sorted, end, then, mem-at}
 use Rattle.rows.proofs.Arrangements.{sorted-at}
 use Rattle.walk.specs.Steps.Successors.{countBelow, rankTable, Ascend, Ranked, freeAbove}
-use Rattle.walk.proofs.Successors.{Free, none-free, least-free, free-above, free-unique}
+use Rattle.walk.proofs.Successors.{none-free, least-free, free-above, free-unique}
 
 -- ascending by places, and as a sorted list
 pub ascend-sorted : (l : List ℕ) → Ascend l → Sorted _<_ l

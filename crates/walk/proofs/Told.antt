@@ -2,11 +2,11 @@
 use mathlib.Core.Path.{_≡_, refl, sym, ap, ap₂, _∙_}
 use mathlib.Core.Bool.{Bool, true, false, not, cond, _&&_}
 use mathlib.Core.List.{List, [], _∷_, _++_}
-use Prim.Native.Nat.{ℕ, _+_, _-_, _^_, _≤_, _<_, min}
+use Prim.Native.Nat.{ℕ, _+_, _-_, _^_, _≤_, min}
 use native.Mathlib.Nat.{add-zero}
 use native.Mathlib.Decide.{decLt}
 use native.Mathlib.Omega.{arith}
-use lib.Dec.{eqb, leb}
+use lib.Dec.{eqb}
 use lib.ListN.{length, getD, take, replicate}
 use lib.Seq.{getD-take}
 use borrow.Author.Tests.{eq-eqb, ne-eqb, le-leb, lt-leb}
@@ -14,7 +14,7 @@ use Rattle.refusal.specs.Refusals.{fault, answerAfter}
 use Rattle.algebra.specs.Matrix.{words}
 use Rattle.field.specs.Polynomial.{Modulus, degree}
 use Rattle.field.proofs.Calls.{elements-most}
-use Rattle.lines.specs.Counts.{elementCount, additionCount, rowCount}
+use Rattle.lines.specs.Counts.{additionCount, rowCount}
 use Rattle.lines.proofs.Tallies.{elementCount-le, additionCount-cong}
 use Rattle.rows.specs.Lightest.{Best, nothing, found, ascending, rowsOver}
 use Rattle.rows.specs.Shape.{isGood, hadamardShape}

@@ -1,5 +1,5 @@
 -- The walk over the rows of different candidates of a brief, in the words of document 02, Seven: what the call answers, and what the struct of the
--- code says. Assumes nothing.
+-- code says. To be believed. Assumes nothing.
 use mathlib.Core.Bool.{cond, _&&_}
 use mathlib.Core.List.{List, [], _∷_, _++_}
 use Prim.Native.Nat.{ℕ, _-_}

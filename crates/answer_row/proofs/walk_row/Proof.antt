@@ -10,7 +10,6 @@ use Rattle.refusal.specs.declared.Outcome.the-variants.{Value}
 use Rattle.rows.specs.declared.Family.the-variants.{Hadamard}
 use Rattle.cuts.proofs.Families.{family-most}
 use Rattle.walk.specs.Answer.{walkAnswer, saysWalked, saysWalk}
-use Rattle.walk.specs.declared.WalkResult.{WalkResult}
 use Rattle.text.specs.Reading.{valuesFrom}
 use Rattle.text.proofs.Lengths.{length-valuesFrom}
 use Rattle.reply.proofs.Replies.{replied-as}

@@ -4,7 +4,6 @@ use mathlib.Core.Bool.{false}
 use lib.ListN.{length}
 use Rattle.refusal.specs.declared.Refusal.the-variants.{OrderRange, CountRange, ValueRange, BadCandidate}
 use Rattle.refusal.proofs.Faults.{after-taken, after-left, after-empty}
-use Rattle.field.specs.Faults.{polynomialFaults}
 use Rattle.field.proofs.Calls.{modulus-passed}
 use Rattle.rows.specs.Candidates.{someTooLarge, someBad}
 use Rattle.search.specs.Answer.{isWrongOrderFor, isWrongCountFor}

@@ -1,5 +1,4 @@
 -- `search::checked_brief` meets its contract: what the polynomial is refused for, the brief is. Assumes nothing.
-use mathlib.Core.Path.{_∙_}
 use Rattle.refusal.proofs.Faults.{outcome-refused}
 use Rattle.field.specs.Polynomial.{Modulus}
 use Rattle.field.specs.Faults.{polynomialFaults}

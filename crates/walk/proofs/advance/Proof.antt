@@ -1,6 +1,6 @@
 -- `walk::advance` meets its contract: it stands after the rows of the budget that are tried. Assumes nothing.
-use mathlib.Core.Path.{_≡_, refl, sym, ap, _∙_}
-use Prim.Native.Nat.{ℕ, suc, _+_, _-_, _≤_}
+use mathlib.Core.Path.{_≡_, ap, _∙_}
+use Prim.Native.Nat.{suc, _+_, _-_, _≤_}
 use native.Mathlib.Omega.{arith}
 use Rattle.walk.specs.Steps.Positions.{positionAt, StandsAt}
 use Rattle.walk.proofs.Positions.{position-stands, position-left, position-end}

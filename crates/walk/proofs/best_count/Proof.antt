@@ -1,5 +1,4 @@
 -- `walk::best_count` meets its contract. Assumes nothing.
-use Prim.Native.Nat.{_≤_}
 use native.Mathlib.Omega.{arith}
 use lib.ListN.{getD}
 use Rattle.lines.proofs.Tallies.{additionCount-le}

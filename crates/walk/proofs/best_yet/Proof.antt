@@ -1,9 +1,6 @@
 -- `walk::best_yet` meets its contract: what the brief is refused for, the walk is; else it is told where the walk stands. Assumes nothing.
-use mathlib.Core.Path.{_≡_, sym, ap, _∙_}
-use mathlib.Core.List.{List}
-use Prim.Native.Nat.{ℕ, _+_, _^_}
-use native.Mathlib.Nat.{zero-add}
-use native.Mathlib.Omega.{arith}
+use mathlib.Core.Path.{_≡_, _∙_}
+use Prim.Native.Nat.{_^_}
 use Rattle.refusal.specs.Refusals.{firstNumber}
 use Rattle.refusal.proofs.Faults.{outcome-passed, outcome-refused}
 use Rattle.field.specs.Polynomial.{degree}

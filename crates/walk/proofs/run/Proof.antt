@@ -9,7 +9,6 @@ use Rattle.field.proofs.Calls.{elements-most}
 use Rattle.lightest.proofs.LetterCounts.{listed-fits}
 use Rattle.walk.specs.Steps.Positions.{Lettered, StandsAt, lettersOf}
 use Rattle.walk.proofs.Begun.{letters-taken, letters-ascend, letters-few, walk-runs}
-use borrow.Author.Needs.{needs}
 use Rattle.walk.proofs.run.Statement.{statement}
 use Rattle.walk.proofs.run.Tie as tie
 

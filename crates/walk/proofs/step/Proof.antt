@@ -1,9 +1,7 @@
 -- `walk::step` meets its contract. Assumes nothing.
 use native.Mathlib.Omega.{arith}
 use Rattle.cuts.proofs.HadamardCuts.{order-most}
-use Rattle.walk.specs.Steps.Positions.{StandsAt}
 use Rattle.walk.proofs.Positions.{letters-ranked, rows-fit, row-rest, row-counts, stands-row, step-judging, step-holds, step-ends}
-use borrow.Author.Needs.{needs}
 use Rattle.walk.proofs.step.Statement.{statement}
 use Rattle.walk.proofs.step.Tie as tie
 

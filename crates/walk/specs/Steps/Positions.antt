@@ -1,4 +1,4 @@
--- Where the walk of the code stands: the struct of a brief after some number of rows. Nobody need believe these: `walked` of proofs/Positions.antt
+-- Where the walk of the code stands: the struct of a brief after some number of rows. Nobody need believe these: `brief-told` of proofs/Told.antt
 -- ties them to the definition of a walk.
 use mathlib.Core.Path.{_≡_}
 use mathlib.Core.List.{List, List·Memᴰ}

@@ -1,14 +1,12 @@
 -- `walk::next::first_row` meets its contract. Assumes nothing.
-use mathlib.Core.Path.{_≡_, refl, sym, ap, _∙_}
-use mathlib.Core.List.{List, []}
-use Prim.Native.Nat.{ℕ, _-_, _≤_, zero-le}
+use mathlib.Core.Path.{ap, _∙_}
+use mathlib.Core.List.{[]}
+use Prim.Native.Nat.{ℕ, _-_, zero-le}
 use native.Mathlib.Nat.{sub-zero}
-use native.Mathlib.Omega.{arith}
-use lib.ListN.{length, take, drop, replicate}
+use lib.ListN.{length}
 use borrow.Author.Tests.{lt-ltb, le-ltb}
 use Rattle.walk.specs.Steps.Successors.{filledUp, firstRow, eight}
 use Rattle.walk.proofs.Filling.{eight-zeros, drop-zeros}
-use borrow.Author.Needs.{needs}
 use Rattle.walk.proofs.next.first_row.Statement.{statement}
 use Rattle.walk.proofs.next.first_row.Tie as tie
 

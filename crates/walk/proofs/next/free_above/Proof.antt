@@ -1,9 +1,9 @@
 -- `walk::next::free_above` meets its contract: the letters before place i are not above a, or used. Assumes nothing.
-use mathlib.Core.Path.{_≡_, sym, _∙_}
+use mathlib.Core.Path.{sym, _∙_}
 use mathlib.Core.Bool.{true≢false}
 use Prim.Native.Nat.{_-_, _<_}
 use native.Mathlib.Omega.{arith}
-use lib.ListN.{length, getD, take}
+use lib.ListN.{length, take}
 use borrow.Author.Tests.{not-true, not-false}
 use Rattle.rows.proofs.Rows.{member-mem, getD-mem}
 use Rattle.walk.proofs.Ranks.{Passed, rank-at, passed-start, passed-turn, passed-all, passed-free}

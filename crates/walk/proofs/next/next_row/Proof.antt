@@ -1,9 +1,8 @@
 -- `walk::next::next_row` meets its contract: the entries from place i on cannot be raised. Assumes nothing.
 use mathlib.Core.Path.{_≡_, refl, sym, ap, _∙_}
-use mathlib.Core.List.{List}
-use Prim.Native.Nat.{ℕ, _+_, _-_, _≤_, _<_}
+use Prim.Native.Nat.{_-_, _≤_}
 use native.Mathlib.Omega.{arith}
-use lib.ListN.{length, take, drop, replicate}
+use lib.ListN.{length, take}
 use lib.Seq.{drop-set-lt}
 use Rattle.walk.specs.Steps.Successors.{eight, raisedBelow, rowBehind}
 use Rattle.walk.proofs.Filling.{eight-zeros, raise-none, raise-some, raise-end}

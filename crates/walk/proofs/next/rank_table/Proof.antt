@@ -1,10 +1,9 @@
 -- `walk::next::rank_table` meets its contract: after a turns the first a entries are stored. Assumes nothing.
 use mathlib.Core.Path.{_≡_, refl, sym, ap, _∙_}
 use mathlib.Core.List.{append-nil}
-use Prim.Native.Nat.{ℕ, suc, _-_, _≤_, _<_, zero-le}
+use Prim.Native.Nat.{suc, _-_, _≤_, _<_, zero-le}
 use native.Mathlib.Omega.{arith}
 use native.Mathlib.Numerals.{add-one}
-use lib.ListN.{length}
 use Rattle.algebra.specs.Matrix.{tabulate}
 use Rattle.lines.specs.Steps.Blocks.{filledTo}
 use Rattle.lines.proofs.Filled.{filledTo-more}
