@@ -185,9 +185,9 @@ module _ (K : Operations) (L : Field K) where
   -- ---- a column that is not null in line 0
 
   -- a column with an entry in line 0 comes to the front
-  pub moved : (F : Columns K → E) → Alternating K F → {v : ℕ → E} {us cs : Columns K} → Inserted v us cs → F cs ≡ F (v ∷ us)
+  pub moved : {v : ℕ → E} (F : Columns K → E) → Alternating K F → {us cs : Columns K} → Inserted v us cs → F cs ≡ F (v ∷ us)
   moved F A here = refl
-  moved F A {v} (there {u = u} {us = us} i) = moved (λ l. F (u ∷ l)) (under F u A) i ∙ A.swap [] u v us
+  moved {v} F A (there {u = u} {us = us} i) = moved (λ l. F (u ∷ l)) (under F u A) i ∙ A.swap [] u v us
 
   -- every column is null in line 0, or there is one that is not
   pub find : (cs : Columns K) → ((j : ℕ) → line K cs 0 j ≡ null) ⊎ ((v : ℕ → E) × (us : Columns K) × Inserted v us cs × (is_null (v 0) ≡ false))

@@ -23,7 +23,7 @@ use Rattle.cuts.proofs.Families.{family_most}
 use Rattle.search.specs.Answer.{is_none}
 use Rattle.search.proofs.Refusals.{BriefPassed, brief_passed, brief_parts}
 use Rattle.walk.specs.Answer.{walk_faults, best_count, best_row, WalkFound, no_walk, walk_found, walk_answer, says_walked}
-use Rattle.walk.proofs.EightSmallest.{bound_most, bound_of}
+use Rattle.walk.proofs.EightSmallest.{bound_most, bound_of_holds}
 use Rattle.text.specs.Text.{SixDigits}
 use Rattle.text.specs.Reading.{values_from}
 use Rattle.text.proofs.Form.{six_none, six_more}
@@ -60,7 +60,7 @@ pub six_walk : (p n : ℕ) (values : List ℕ) (budget : ℕ) → Modulus p → 
 six_walk p n values budget h u six =
     let w = walk_of p n values budget in
     six_more _ zero-le (six_more _ (finished_told w.finished) (six_more _ (omega (arith, rows_tried_holds p n values budget))
-    (six_more _ (count_told p n w.best h u) (six_more _ (omega (arith, bound_of p n values, bound_most p h n (ascending (2 ^ degree p) values) u)) six_none))))
+    (six_more _ (count_told p n w.best h u) (six_more _ (omega (arith, bound_of_holds p n values, bound_most p h n (ascending (2 ^ degree p) values) u)) six_none))))
 
 -- ---- what is due, from what the walk says
 

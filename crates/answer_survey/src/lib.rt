@@ -26,7 +26,7 @@ fn nonzero(p: u16) -> usize
 }
 
 // The sum of the XOR counts of the nonzero elements, and the sum of their squares.
-#[derive(Drop)]
+#[derive(Clone, Copy)]
 struct Sums {
     counts: u32,
     squares: u32,

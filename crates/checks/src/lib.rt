@@ -177,7 +177,7 @@ pub fn checked_row_count(p: u32, row: [u8; 8], n: u32) -> Outcome
 // ---- calls that yield words
 
 // Eight words, of which the outcome says whether they count.
-#[derive(Drop)]
+#[derive(Clone, Copy)]
 pub struct Words {
     pub outcome: Outcome,
     pub words: [u8; 8],
@@ -232,7 +232,7 @@ pub fn checked_halved(p: u32, row: [u8; 8], x: [u8; 8], n: u32) -> Words
 // ---- the check
 
 // All that is found of a matrix: branch number, MDS and involution (1 or 0), XOR count.
-#[derive(Drop)]
+#[derive(Clone, Copy)]
 pub struct Found {
     pub branch: u32,
     pub mds: u32,
@@ -241,7 +241,7 @@ pub struct Found {
 }
 
 // What is found, of which the outcome says whether it counts.
-#[derive(Drop)]
+#[derive(Clone, Copy)]
 pub struct Checked {
     pub outcome: Outcome,
     pub found: Found,

@@ -93,6 +93,7 @@ passing_ascends t (suc n) s = kept (t s) (passing_ascends t n (suc s))
     kept false a = lower a
 
 pub ascends_above : {low k : ℕ} {l : List ℕ} → Ascends low l → Memᴰ k l → low ≤ k
+ascends_above {k = k} (no_more {low = low}) m = absurd (Memᴰ.not-nil m)
 ascends_above (rise h a) (Memᴰ.head e) = omega arith
 ascends_above (rise h a) (Memᴰ.tail m) = omega (arith, ascends_above a m)
 

@@ -37,7 +37,7 @@ use Rattle.gates.proofs.Joined.{InputList, InputLists, of_there, outputs_inputs}
 pub wires_append : (bits : List ℕ) (gates more : List Gate) → wires bits (gates ++ more) ≡ wires (wires bits gates) more
 unfolding wires
 wires_append bits [] more = refl
-wires_append bits (g ∷ gates) more = wires_append _ gates more
+wires_append bits (g ∷ gates) more = wires_append (bits ++ (get_or bits g.running 0 ⊕ get_or bits g.input 0) ∷ []) gates more
 
 -- a wire for each gate
 pub wires_length : (bits : List ℕ) (gates : List Gate) → length (wires bits gates) ≡ length bits + length gates

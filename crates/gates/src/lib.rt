@@ -11,7 +11,7 @@ ghost use Rattle.gates.specs.Steps.{as_inputs};
 pub const ALWAYS_ZERO: u32 = 999999;
 
 // The inputs of an output bit, ascending: the first `count` of the array, with zeros behind them.
-#[derive(Drop)]
+#[derive(Clone, Copy)]
 pub struct Inputs {
     pub list: [u8; 64],
     pub count: usize,

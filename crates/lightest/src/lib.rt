@@ -15,7 +15,7 @@ mod prefix;
 
 // The row kept: its entries with zeros behind them, its depth, and the sum of its counts; all zeros where none is found.
 // With the fields in this order it fills sixteen bytes, which are moved at once.
-#[derive(Drop)]
+#[derive(Clone, Copy)]
 pub struct Best {
     pub found: bool,
     pub row: [u8; 8],

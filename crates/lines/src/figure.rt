@@ -8,7 +8,7 @@ ghost use Rattle.lines.specs.Depths.{ones_in_line, depth_of, greatest};
 ghost use Rattle.lines.specs.Steps.Figures.{ones_table, CountsOf, figure_of, line_figure, figure_sum, Addable, depth_of_ones, average_ones, least_depth};
 
 // Of an element, or the sum over a row: the count, and the ones for each output bit, 0 behind the degree.
-#[derive(Drop)]
+#[derive(Clone, Copy)]
 pub struct Figure {
     pub count: u32,
     pub ones: [u8; 8],

@@ -101,7 +101,7 @@ module _ (p : ℕ) (h : Modulus p) (k : ℕ) where
         ≡ regular_between (numbers p) (2 ^ k) (hadamard (numbers p) row) 1 0 (2 ^ (k - 1))
     half_is_enough low high one =
         mds_carried p h (2 ^ k) _ _ entries
-        ∙ Translates.half-is-enough R L (all p) (complete p) k low high _ (same_number p _ _ (sums ∙ one))
+        ∙ Translates.half_is_enough R L (all p) (complete p) k low high _ (same_number p _ _ (sums ∙ one))
         ∙ sym (regular_carried p h (2 ^ k) _ _ entries 1 0 (2 ^ (k - 1)))
 
   -- ---- the row with its places moved

@@ -150,7 +150,7 @@ module _ (p : ℕ) (h : Modulus p) where
     pub mds_is_regular : 0 < n → is_mds (numbers p) (elements p) n f ≡ regular_between (numbers p) n f 0 0 n
     mds_is_regular g =
         mds_carried p h n f lifted entries
-        ∙ Squares.mds-is-regular R L (all p) (complete p) n lifted g
+        ∙ Squares.mds_is_regular R L (all p) (complete p) n lifted g
         ∙ sym (regular_carried p h n f lifted entries 0 0 n)
 
     -- an MDS matrix passes the test, whatever blocks it looks at
@@ -158,7 +158,7 @@ module _ (p : ℕ) (h : Modulus p) where
         → regular_between (numbers p) n f look above most ≡ true
     mds_regular t look above most =
         regular_carried p h n f lifted entries look above most
-        ∙ Squares.mds-regular R L (all p) (complete p) n lifted (sym (mds_carried p h n f lifted entries) ∙ t) look above most
+        ∙ Squares.mds_regular R L (all p) (complete p) n lifted (sym (mds_carried p h n f lifted entries) ∙ t) look above most
 
     -- a matrix that passes it with all blocks is MDS
     pub regular_mds : 0 < n → regular_between (numbers p) n f 0 0 n ≡ true → is_mds (numbers p) (elements p) n f ≡ true
@@ -170,7 +170,7 @@ module _ (p : ℕ) (h : Modulus p) where
         → has_kernel (numbers p) (elements p) (length (chosen n s)) (length (chosen n r)) (block f (chosen n r) (chosen n s))
         ≡ has_kernel R (all p) (length (chosen n s)) (length (chosen n r)) (block lifted (chosen n r) (chosen n s))
     block_carried r s =
-        kernel_carried p h (length (chosen n s)) (length (chosen n r)) _ _ (Squares.block-bridge R (numbers p) (number p) (number_keeps p h) n lifted f entries r s)
+        kernel_carried p h (length (chosen n s)) (length (chosen n r)) _ _ (Squares.block_bridge R (numbers p) (number p) (number_keeps p h) n lifted f entries r s)
 
     branch_is : branch_number (numbers p) (elements p) n f ≡ branch_number R (all p) n lifted
     branch_is = branch_carried p h n f lifted entries
@@ -227,7 +227,7 @@ module _ (p : ℕ) (h : Modulus p) where
         → is_mds (numbers p) (elements p) n f ≡ regular_between (numbers p) n f 0 0 (n / 2)
     involution_half g t =
         mds_carried p h n f lifted entries
-        ∙ Squares.involution-half R L (all p) (complete p) n lifted g (sym involution_is ∙ t)
+        ∙ Squares.involution_half R L (all p) (complete p) n lifted g (sym involution_is ∙ t)
         ∙ sym (regular_carried p h n f lifted entries 0 0 (n / 2))
 
     twice_carried : (x : List (Residue p))

@@ -3,7 +3,7 @@
 use mathlib.Core.Path.{◌≡◌, refl, ap}
 use mathlib.Core.Bool.{true}
 use mathlib.Core.List.{List, Memᴰ}
-use Prim.Native.Nat.{ℕ, suc, ◌+◌, ◌-◌, ◌^◌, ◌≤◌, ◌<◌}
+use Prim.Native.Nat.{ℕ, zero, suc, ◌+◌, ◌-◌, ◌^◌, ◌≤◌, ◌<◌}
 use native.Mathlib.Nat.{pow-suc}
 use native.Mathlib.Omega.{arith}
 use lib.Bits.{bit_xor}
@@ -35,6 +35,7 @@ least_of_each = refl
 
 -- the same for one of them
 has_least : (k : ℕ) → 1 ≤ k → k ≤ 3 → (mask : ℕ) → mask < 2 ^ 2 ^ k → has_looked 1 (2 ^ k) translation mask ≡ true
+has_least zero low high mask l = elim low [ ]
 has_least (suc k) low high mask l = every_each (2 ^ 2 ^ suc k) _ (every_each 3 _ least_of_each k high) mask l
 
 -- ---- Hadamard involutions

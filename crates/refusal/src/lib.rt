@@ -4,7 +4,7 @@ ghost use Rattle.std.specs.Prelude.{◌≡◌};
 ghost use Rattle.refusal.specs.Refusals.{number_of};
 
 // The reasons of document 01. The definition `number_of` gives the number of each.
-#[derive(Drop)]
+#[derive(Clone, Copy)]
 pub enum Refusal {
     Form,
     Kind,
@@ -19,7 +19,7 @@ pub enum Refusal {
 }
 
 // What a call yields.
-#[derive(Drop)]
+#[derive(Clone, Copy)]
 pub enum Outcome {
     Value(u32),
     Refused(Refusal),

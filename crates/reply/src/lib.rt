@@ -8,7 +8,7 @@ ghost use Rattle.reply.specs.Answered.{Replied};
 use refusal::Refusal;
 
 // The number that is returned, 0 where the request is accepted, and the length of the answer, 0 where it is refused.
-#[derive(Drop)]
+#[derive(Clone, Copy)]
 pub struct Reply {
     pub number: u32,
     pub length: usize,

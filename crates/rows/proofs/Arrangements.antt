@@ -44,7 +44,7 @@ from_differing (row ∷ rest) r m =
     (λ k. let (i, e) = from_differing rest r k in (Memᴰ.tail i, e))
     (kept_cases (not (some_repeated row)) row r (differing rest) m)
 
-to_differing : {rows : List (List ℕ)} {r : List ℕ} → Memᴰ r rows → some_repeated r ≡ false → Memᴰ r (differing rows)
+to_differing : {r : List ℕ} {rows : List (List ℕ)} → Memᴰ r rows → some_repeated r ≡ false → Memᴰ r (differing rows)
 unfolding differing
 to_differing {r = r} (Memᴰ.head {x = row} {xs = rest} e) f = kept_head (some_repeated row) row r (differing rest) (ap some_repeated (sym e) ∙ f) e
 to_differing {r = r} (Memᴰ.tail {x = row} {xs = rest} m) f = kept_rest (not (some_repeated row)) row r (differing rest) (to_differing m f)

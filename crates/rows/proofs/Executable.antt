@@ -122,7 +122,7 @@ pick_ascends (then {x = a} {xs = letters} p s) (suc n) r m =
     (λ k.
     let (w, i, e) = Memᴰ.of_map (λ w. a ∷ w) (picks letters n) k in
     rw (← e) (then {x = a} (λ y j. p y ((pick_over letters n w i).1 y j)) (pick_ascends s n w i)))
-    (λ k. pick_ascends s (suc n) r k) (Memᴰ.append_cases (map (λ w. a ∷ w) (picks letters n)) m)
+    (λ k. pick_ascends {letters = letters} s (suc n) r k) (Memᴰ.append_cases (map (λ w. a ∷ w) (picks letters n)) m)
 
 -- ---- canonical rows of four
 
@@ -201,7 +201,7 @@ tests_together : (early late : List ℕ → Bool) (key : List ℕ → ℕ) (best
 unfolding try_all try_row keep_all keep
 tests_together early late key best [] = refl
 tests_together early late key best (r ∷ rows) =
-    rw (lazy (early r) (lighter key best r) (late r) (found r) best) (tests_together early late key _ rows)
+    rw (lazy (early r) (lighter key best r) (late r) (found r) best) (tests_together early late key (keep (λ r. early r && late r) key best r) rows)
 
 -- they decide on goodness
 good_tests : (p : ℕ) → Modulus p → (r : List ℕ) → WordsInField p 4 r → is_good hadamard_shape p 4 r ≡ (sums_to_one p r && blocks_pass p r)

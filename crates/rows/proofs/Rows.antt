@@ -64,7 +64,7 @@ module _ {A : Type 0} {R : A → A → Type 0} where
 
 module _ {A : Type 0} where
   -- a letter before a word is a row of the list
-  pub before_mem : {ls : List A} {ws : List (List A)} {a : A} {w : List A} → Memᴰ a ls → Memᴰ w ws → Memᴰ (a ∷ w) (before ls ws)
+  pub before_mem : {a : A} {ls : List A} {ws : List (List A)} {w : List A} → Memᴰ a ls → Memᴰ w ws → Memᴰ (a ∷ w) (before ls ws)
   unfolding before
   before_mem {w = w} (Memᴰ.head {x = x} e) k =
       Memᴰ.append_left _ (Memᴰ.cast (ap {B = List A} (λ b. b ∷ w) e) (Memᴰ.map (λ w. x ∷ w) k))
@@ -226,7 +226,7 @@ mem_among candidates (y ∷ ys) x m =
     (keep_if_cases (member y candidates) x y (among candidates ys) m)
 
 -- and every such number is kept
-among_mem : {candidates xs : List ℕ} {x : ℕ} → Memᴰ x xs → Memᴰ x candidates → Memᴰ x (among candidates xs)
+among_mem : {candidates : List ℕ} {x : ℕ} {xs : List ℕ} → Memᴰ x xs → Memᴰ x candidates → Memᴰ x (among candidates xs)
 unfolding among
 among_mem {candidates} {x = x} (Memᴰ.head {x = y} {xs = ys} e) k =
     keep_if_mem (member y candidates) x y (among candidates ys) (mem_true (Memᴰ.cast (sym e) k)) e

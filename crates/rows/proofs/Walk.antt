@@ -75,7 +75,7 @@ module _ (good : List ℕ → Bool) (key : List ℕ → ℕ) where
         → keep_all good key best (map (λ w. prefix ++ w) (before firsts (words letters k))) ≡ branches good key letters prefix k best firsts
     unfolding keep_all before branches completions
     keep_all_before k best [] = refl
-    keep_all_before k best (a ∷ firsts) = rw (map_append, map_longer prefix a (words letters k), keep_all_append) (keep_all_before k _ firsts)
+    keep_all_before k best (a ∷ firsts) = rw (map_append, map_longer prefix a (words letters k), keep_all_append) (keep_all_before k (keep_all good key best (map (λ w. (prefix ++ a ∷ []) ++ w) (words letters k))) firsts)
 
     -- one place more: letter by letter, the completions of the longer prefix
     pub extend_suc : (k : ℕ) (best : Best) → keep_all good key best (completions letters prefix (suc k)) ≡ branches good key letters prefix k best letters
@@ -87,7 +87,7 @@ module _ (good : List ℕ → Bool) (key : List ℕ → ℕ) where
         → branches good key letters prefix k best (firsts ++ a ∷ []) ≡ keep_all good key (branches good key letters prefix k best firsts) (completions letters (prefix ++ a ∷ []) k)
     unfolding branches
     branches_snoc k best [] a = refl
-    branches_snoc k best (b ∷ firsts) a = branches_snoc k _ firsts a
+    branches_snoc k best (b ∷ firsts) a = branches_snoc k (keep_all good key best (completions letters (prefix ++ b ∷ []) k)) firsts a
 
     -- one letter more of a loop over the letters
     pub branches_suc : (k : ℕ) (best : Best) (firsts : List ℕ) (i d : ℕ) → i < length firsts

@@ -1,7 +1,7 @@
 // Rows over the candidates of a brief. No code: the definitions are in specs/, the theorems in proofs/.
 
 // The matrices that are searched for: Hadamard involutions, or circulant matrices.
-#[derive(Drop)]
+#[derive(Clone, Copy)]
 pub enum Family {
     Hadamard,
     Circulant,

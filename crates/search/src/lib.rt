@@ -16,7 +16,7 @@ use rows::Family;
 mod front;
 
 // What a search answers: the sum of the row's counts or the refusal, and the row, all zeros where the search is refused.
-#[derive(Drop)]
+#[derive(Clone, Copy)]
 pub struct SearchResult {
     pub outcome: Outcome,
     pub row: [u8; 8],

@@ -2,7 +2,7 @@
 -- a text in form is the text of what is read. `in_form_exactly`: the test `in_form` decides document 01's form. `one_text`: two
 -- requests with the same text are the same numbers. `first_line_holds`: the values stand sixteen to a line.
 -- Assumes nothing.
-use mathlib.Core.Path.{◌≡◌, refl, sym, ap, ap₂, ◌∙◌}
+use mathlib.Core.Path.{◌≡◌, refl, sym, ap, ap₂, ◌∙◌, subst⁻¹, subst₂}
 use mathlib.Core.Bool.{Bool, true, false, cond, not}
 use mathlib.Core.Logic.{◌↔◌}
 use mathlib.Core.List.{List, [], ◌∷◌, ◌++◌, append_assoc, append-nil}
@@ -43,7 +43,7 @@ values_back p j (v ∷ w ∷ vs) e six =
     let rest = value_text (suc j) (w ∷ vs) in
     ap₂ (λ (x : ℕ) (l : List ℕ). x ∷ l)
     (rw (append_assoc (column v) (line_end j (suc n)) rest) (value_back p j v (line_end j (suc n) ++ rest) e (six 0)))
-    (rw (← append_assoc p (column v ++ line_end j (suc n)) rest)
+    (subst⁻¹ (λ (l : List ℕ). values_from l (suc j) (suc n) ≡ w ∷ vs) (sym (append_assoc p (column v ++ line_end j (suc n)) rest))
     (values_back (p ++ (column v ++ line_end j (suc n))) (suc j) (w ∷ vs) (next_place p j v n e) (λ i. six (suc i))))
 
 -- numbers side by side that stand behind p are read back
@@ -52,9 +52,9 @@ unfolding numbers_from columns SixDigits
 numbers_back p [] q six = refl
 numbers_back p (v ∷ vs) q six =
     let long : length (p ++ column v) ≡ length p + 6 = length-append p (column v) ∙ rw (length_column v) in
-    rw (append_assoc (column v) (columns vs) q)
+    subst⁻¹ (λ (l : List ℕ). numbers_from (p ++ l) (length p) (suc (length vs)) ≡ v ∷ vs) (append_assoc (column v) (columns vs) q)
     (ap₂ (λ (x : ℕ) (l : List ℕ). x ∷ l) (number_back p v (columns vs ++ q) (six 0))
-    (rw (← append_assoc p (column v) (columns vs ++ q), ← long) (numbers_back (p ++ column v) vs q (λ i. six (suc i)))))
+    (subst₂ (λ (l : List ℕ) (n : ℕ). numbers_from l n (length vs) ≡ vs) (append_assoc p (column v) (columns vs ++ q)) long (numbers_back (p ++ column v) vs q (λ i. six (suc i)))))
 
 -- ---- the text of a request
 

@@ -12,7 +12,7 @@ pub const MOST_VALUES: u32 = 671;
 const MOST_WRITTEN: usize = 4099;
 
 // Line one of a request text, or that the text is not in form.
-#[derive(Drop)]
+#[derive(Clone, Copy)]
 pub enum Header {
     Refused,
     Read {

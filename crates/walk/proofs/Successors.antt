@@ -161,6 +161,8 @@ arranged_le {letters} {row} {n} d = places_le row letters n d.over d.different
 -- an earlier row of the same length: the first place where they differ
 pub earlier_place : (r x : List ℕ) → length r ≡ length x → Earlier r x
     → (d : ℕ) × (d < length r) × ((k : ℕ) → k < d → get_or r k 0 ≡ get_or x k 0) × (get_or r d 0 < get_or x d 0)
+earlier_place [] x e h = elim h [ ]
+earlier_place (a ∷ r) [] e h = elim h [ ]
 earlier_place (a ∷ r) (b ∷ x) e (differs h) = (0, omega arith, (λ k l. absurd (omega arith)), h)
 earlier_place (a ∷ r) (b ∷ x) e (agrees f h) =
     let (d, l, same, less) = earlier_place r x (omega arith) h in

@@ -21,7 +21,7 @@ pub mod judge;
 pub mod next;
 
 // Where a walk stands: the next row, all zeros where none is left, how many rows are tried, and the best of them.
-#[derive(Drop)]
+#[derive(Clone, Copy)]
 pub struct Position {
     pub row: [u8; 8],
     pub tried: u64,
@@ -29,7 +29,7 @@ pub struct Position {
 }
 
 // A walk: the brief, as polynomial, order and the table of the candidates' counts, and where it stands.
-#[derive(Drop)]
+#[derive(Clone, Copy)]
 pub struct Walk {
     pub polynomial: u16,
     pub order: usize,
@@ -39,7 +39,7 @@ pub struct Walk {
 
 // What a walk answers: whether it is finished, 1 or 0, or the refusal; how many rows are tried; the count of the best row, 999999 where there is
 // none; the bound; and the best row. All zeros where the walk is refused.
-#[derive(Drop)]
+#[derive(Clone, Copy)]
 pub struct WalkResult {
     pub outcome: Outcome,
     pub tried: u64,

@@ -1,0 +1,16 @@
+-- `walk::next::next_row` meets its contract: the entries from place i on cannot be raised. Assumes nothing.
+use mathlib.Core.Path.{◌≡◌, refl, sym, ap, ◌∙◌}
+use Prim.Native.Nat.{◌-◌, ◌≤◌}
+use native.Mathlib.Omega.{arith}
+use lib.ListN.{length, take}
+use lib.Seq.{drop-set-lt}
+use Rattle.walk.specs.Steps.Successors.{eight, raised_below, row_behind}
+use Rattle.walk.proofs.Filling.{eight_zeros, raise_none, raise_some, raise_end}
+use borrow.Author.Rules.{rules}
+use Rattle.walk.proofs.next.next_row.Given as goal
+
+abbrev pub invariant-loop-i : goal.invariant-loop-i
+invariant-loop-i l = (l.i ≤ l.n) × (raised_below l.letters l.n (take l.n l.row) l.i ≡ row_behind l.letters l.n (take l.n l.row))
+
+abbrev pub decreases-loop-i : goal.decreases-loop-i
+decreases-loop-i l = l.i
