@@ -62,9 +62,8 @@ pub fn answer(request: &[u8], space: &mut [u8]) -> Reply
     }
 }
 
-// The same for callers in C and Rust: the number is returned, and the length is stored.
-#[unsafe(no_mangle)]
-pub extern "C" fn rowfind_answer(request: &[u8], space: &mut [u8], length: &mut usize) -> u32
+// The same for callers that lend a place for the length, as those in C: the number is returned, and the length is stored.
+pub fn rowfind_answer(request: &[u8], space: &mut [u8], length: &mut usize) -> u32
     ensures { Answered request.now space.old space.new result length.new }
 {
     let reply = answer(request, space);

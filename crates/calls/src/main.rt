@@ -10,6 +10,8 @@ ghost use Rattle.calls.specs.Records.{four_bytes, words_at, matrix_in, budget_in
 ghost use Rattle.calls.specs.Replies.{value_reply, words_reply, check_reply, search_reply, walk_reply, no_answer, value_answers, reply_to, reply_of};
 
 use refusal::Outcome;
+use std::io;
+use std::io::Write;
 
 // ---- a record
 
@@ -297,16 +299,17 @@ fn respond(bytes: &[u8]) -> [u8; 52]
     bytes_of(reply_of(bytes))
 }
 
-// At most 65,536 records of 88 bytes; what is left at the end is no record.
-fn main() {
+// At most 65,536 records of 88 bytes; what is left at the end is no record. A read or a write that fails ends the program with its error.
+fn main(rt: HostRuntime) -> io::Result<()> {
     let mut bytes = [0u8; 88];
     let mut k = 0usize;
     while k < 65536 {
-        if io::read_full(libc::STDIN_FILENO, &mut bytes) < 88 {
-            return;
+        if input::read_full(&mut rt.stdin(), &mut bytes)? < 88 {
+            return Ok(());
         }
         let answer = respond(&bytes);
-        io::write_all(libc::STDOUT_FILENO, &answer);
+        rt.stdout().write_all(&answer)?;
         k += 1;
     }
+    Ok(())
 }

@@ -3,6 +3,9 @@
 ghost use Rattle.std.specs.Prelude.{◌≡◌, List, ℕ, ◌≤◌, length, take};
 ghost use Rattle.reply.specs.Answered.{Shown};
 
+use std::io;
+use std::io::Write;
+
 // Answers the whole input, whatever its length, of which the first `read` bytes of the buffer are the first 4,097, or all. The result is
 // how many bytes of the space are to be shown: the answer text, or the line of a refusal; the bytes behind them are as before.
 fn respond(buffer: &[u8], read: usize, space: &mut [u8]) -> usize
@@ -14,11 +17,12 @@ fn respond(buffer: &[u8], read: usize, space: &mut [u8]) -> usize
     if reply.number == 0 { reply.length } else { 7 }
 }
 
-// A text has at most 4,096 bytes: one more tells that it is too long. No answer has more than 52,877.
-fn main() {
+// A text has at most 4,096 bytes: one more tells that it is too long. No answer has more than 52,877. A read or a write that fails ends the
+// program with its error.
+fn main(rt: HostRuntime) -> io::Result<()> {
     let mut buffer = [0u8; 4097];
-    let read = io::read_full(libc::STDIN_FILENO, &mut buffer);
+    let read = input::read_full(&mut rt.stdin(), &mut buffer)?;
     let mut space = [0u8; 52877];
     let shown = respond(&buffer, read, &mut space);
-    io::write_all(libc::STDOUT_FILENO, &space[..shown]);
+    rt.stdout().write_all(&space[..shown])
 }
