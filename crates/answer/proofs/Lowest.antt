@@ -1,7 +1,7 @@
 -- Demand 1's refusals. `nine_answered`: 9 is returned to searches and walks alone, where it applies. `lowest_refusal`: the number is the lowest that
 -- applies, by document 01's list. Assumes nothing.
 use mathlib.Core.Path.{◌≡◌, sym, ◌∙◌}
-use mathlib.Core.Logic.{◌⊎◌, ⊎_elim}
+use mathlib.Core.Logic.{⊎_elim}
 use mathlib.Core.List.{List}
 use Prim.Native.Nat.{ℕ, ◌≤◌, ◌<◌}
 use native.Mathlib.Omega.{arith}

@@ -1,4 +1,5 @@
 // One request text to one answer text.
+#![tactic(auto)]
 
 ghost use Rattle.std.specs.Prelude.{◌≤◌};
 ghost use Rattle.text.specs.Reading.{values_from};

@@ -1,4 +1,5 @@
 // Kinds 2 and 4: what is found of a matrix, or its gates.
+#![tactic(auto)]
 
 ghost use Rattle.std.specs.Prelude.{◌≡◌, ℕ, ◌+◌, ◌-◌, ◌*◌, ◌^◌, ◌≤◌, ◌<◌};
 ghost use Rattle.refusal.specs.Refusals.{answer};

@@ -1,4 +1,5 @@
 // Kinds 1 and 5: the lightest row. Kind 6: the best row of a walk.
+#![tactic(auto)]
 
 ghost use Rattle.std.specs.Prelude.{◌≡◌, [], ◌∷◌, ◌++◌, ◌⊎◌, ◌-◌, ◌≤◌, min, take, replicate};
 ghost use Rattle.refusal.specs.Refusals.{answer};

@@ -1,4 +1,5 @@
 // Kind 3: the polynomials of a degree.
+#![tactic(auto)]
 
 ghost use Rattle.std.specs.Prelude.{◌≡◌, ◌||◌, [], ◌∷◌, ◌+◌, ◌-◌, ◌*◌, ◌^◌, ◌≤◌, ltb, length};
 ghost use Rattle.refusal.specs.Refusals.{answer};

@@ -1,5 +1,6 @@
 // The calls of the library as a filter, for the comparison with the second program: records of calls on standard input, a record of
 // each answer on standard output.
+#![tactic(auto)]
 
 ghost use Rattle.std.specs.Prelude.{◌≡◌, ◌∷◌, ◌++◌, ◌+◌, ◌≤◌, ◌<◌, min, length, take, drop, replicate, get_or};
 ghost use Rattle.refusal.specs.Refusals.{answer_of};

@@ -1,4 +1,5 @@
 // The public calls on matrices: what they are given is judged first, and refused with the lowest number that applies.
+#![tactic(auto)]
 
 ghost use Rattle.std.specs.Prelude.{◌≡◌, false, ◌||◌, ◌++◌, ◌-◌, ◌≤◌, ltb, get_or, replicate};
 ghost use Rattle.refusal.specs.Refusals.{number_of, answer, answer_after, answer_of};

@@ -1,4 +1,5 @@
 // The cuts of the walk, for each family of matrices.
+#![tactic(auto)]
 
 ghost use Rattle.std.specs.Prelude.{◌≡◌, ◌&&◌, suc, ◌<◌, ◌≤◌, take};
 ghost use Rattle.field.specs.Polynomial.{Products};

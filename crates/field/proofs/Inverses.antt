@@ -2,7 +2,7 @@
 -- injective; the columns of a nonzero element's bit matrix are nonzero; and 1 counts 0. For all degrees together. Assumes nothing.
 use mathlib.Core.Path.{◌≡◌, refl, sym, ap, ap₂, ◌∙◌}
 use mathlib.Core.Bool.{Bool, true, false}
-use mathlib.Core.Logic.{◌⊎◌, ⊎_elim}
+use mathlib.Core.Logic.{⊎_elim}
 use Prim.Native.Nat.{ℕ, zero, suc, ◌+◌, ◌-◌, ◌*◌, ◌/◌, ◌^◌, ◌≤◌, ◌<◌, suc-le-suc, zero-le}
 use native.Mathlib.Nat.{le_trans, le_refl, le-suc, lt_of_lt_of_le, lt_of_le_of_lt, lt_of_not-le, le_of_suc-le-suc, not-suc-le-zero, zero-lt-suc, eq-zero-or-pos, eq-or-lt_of_le}
 use native.Mathlib.Decide.{dec_le}

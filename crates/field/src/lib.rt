@@ -1,5 +1,6 @@
 // The field of the polynomials over two elements, reduced by a chosen irreducible polynomial of degree 2 to 8.
 // A polynomial is a number whose bit i is the coefficient of x^i; an element of the field of degree m is a number below 2^m.
+#![tactic(auto)]
 
 ghost use Rattle.std.specs.Prelude.{◌≡◌, ◌||◌, ◌*◌, ◌/◌, ◌^◌, ◌≤◌, ◌<◌, eqb, [], ◌∷◌};
 ghost use Rattle.refusal.specs.Refusals.{fault, answer_after, answer_of};

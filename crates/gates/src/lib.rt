@@ -1,4 +1,5 @@
 // The gates of a matrix product: which input bits an output bit joins, how many gates join them, and which number carries it.
+#![tactic(auto)]
 
 ghost use Rattle.std.specs.Prelude.{◌≡◌, ◌+◌, ◌-◌, ◌*◌, ◌/◌, ◌%◌, ◌^◌, ◌≤◌, ◌<◌, eqb, length, get_or};
 ghost use Rattle.field.specs.Polynomial.{Modulus, degree, product};

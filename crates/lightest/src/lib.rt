@@ -1,4 +1,5 @@
 // The walk to the lightest row over the candidates: letters, prefixes, and the row kept.
+#![tactic(auto)]
 
 ghost use Rattle.std.specs.Prelude.{◌≡◌, false};
 ghost use Rattle.field.specs.Polynomial.{Modulus};

@@ -1,4 +1,5 @@
 // Lines of elements of a field, arrays of which the first places count: their XOR counts and their depths.
+#![tactic(auto)]
 
 pub mod count;
 pub mod figure;

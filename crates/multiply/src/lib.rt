@@ -1,4 +1,5 @@
 // The products of a matrix with an input: the plain one, and the one by halves for a Hadamard matrix.
+#![tactic(auto)]
 
 ghost use Rattle.std.specs.Prelude.{◌≡◌, ◌+◌, ◌-◌, ◌≤◌, ◌<◌, get_or, take, replicate};
 ghost use mathlib.Core.List.{◌++◌, foldl};

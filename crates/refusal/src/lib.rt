@@ -1,4 +1,5 @@
 // Why a request or a call is refused, and what a call yields.
+#![tactic(auto)]
 
 ghost use Rattle.std.specs.Prelude.{◌≡◌};
 ghost use Rattle.refusal.specs.Refusals.{number_of};

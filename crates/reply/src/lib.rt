@@ -1,4 +1,5 @@
 // What a call on a request text replies: the number and the length that are returned, and the texts that are written.
+#![tactic(auto)]
 
 ghost use Rattle.std.specs.Prelude.{◌≡◌, [], ◌∷◌, ◌≤◌, length};
 ghost use Rattle.refusal.specs.Refusals.{number_of, answer};

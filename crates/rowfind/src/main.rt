@@ -1,4 +1,5 @@
 // The row finder as a filter: one request text on standard input, one answer text on standard output.
+#![tactic(auto)]
 
 ghost use Rattle.std.specs.Prelude.{◌≡◌, List, ℕ, ◌≤◌, length, take};
 ghost use Rattle.reply.specs.Answered.{Shown};

@@ -1,5 +1,6 @@
 // The search for the lightest row: of all rows over the candidates whose Hadamard matrix is an involution and MDS, or whose circulant matrix
 // is MDS, the one with the least sum of XOR counts, among equal sums with the least depth, and the first in dictionary order among equals.
+#![tactic(auto)]
 
 ghost use Rattle.std.specs.Prelude.{◌≡◌, ◌≤◌, [], ◌∷◌};
 ghost use Rattle.refusal.specs.Refusals.{number_of, fault, answer, answer_of, answer_after};

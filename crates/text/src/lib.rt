@@ -1,4 +1,6 @@
 // The request and answer texts of document 01: numbers in six columns, lines that end with byte 10.
+#![tactic(auto)]
+
 ghost use Rattle.std.specs.Prelude.{◌≡◌, ◌+◌, ◌*◌, ◌%◌, ◌^◌, ◌≤◌, ◌<◌, [], ◌∷◌, ◌++◌, ◌||◌, eqb, length};
 ghost use Rattle.text.specs.Text.{column_byte, column, line_text, line_end, value_text, further_numbers, SixDigits};
 ghost use Rattle.text.specs.Reading.{digit_at, number_at, value_at, values_from, kind_of, budget_of, line_one, line_one_length, rewritten, same_bytes, in_form, says_header, header_answer};

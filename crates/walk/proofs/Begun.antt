@@ -11,7 +11,7 @@ use Rattle.algebra.proofs.Words.{length_tabulate, tabulate_mem}
 use Rattle.field.specs.Polynomial.{Modulus, degree}
 use Rattle.field.proofs.Calls.{elements_most}
 use Rattle.lines.specs.Numbers.{WordsInField}
-use Rattle.rows.specs.Lightest.{nothing, found, lightest, keep_all}
+use Rattle.rows.specs.Lightest.{lightest, keep_all}
 use Rattle.rows.specs.Candidates.{some_too_large, some_bad}
 use Rattle.rows.specs.Walks.{lower_bound}
 use Rattle.rows.specs.Steps.Orders.{SearchOrder}

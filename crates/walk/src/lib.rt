@@ -1,4 +1,5 @@
 // The walk over the rows of different candidates, in dictionary order: one step for each row, the best row yet, and the bound.
+#![tactic(auto)]
 
 ghost use Rattle.std.specs.Prelude.{◌≡◌, false, not, cond, ◌&&◌, [], ◌∷◌, suc, ◌+◌, ◌≤◌, ◌<◌, eqb, length, get_or};
 ghost use Rattle.refusal.specs.Refusals.{number_of, fault, answer, answer_after};

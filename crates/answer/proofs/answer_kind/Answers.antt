@@ -6,7 +6,6 @@ use Rattle.reply.specs.Due.{Request, Kind, request_with, due_to}
 use Rattle.reply.proofs.DueFrom.{kind_search, kind_survey, kind_walk, kind_unknown, search_unseen, survey_unseen, budget_left}
 use Rattle.answer_matrix.proofs.GateLines.{asked_kind, matrix_unseen}
 use Rattle.reply.proofs.Replies.{replied_as}
-use borrow.Author.Rules.{rules}
 use Rattle.answer.proofs.answer_kind.Goals as goal
 use Rattle.answer.proofs.answer_kind.Goals.{Start}
 

@@ -1,11 +1,8 @@
 -- `answer_matrix::line_of` meets its contract. The loop's invariant: the values before place j are stored. Assumes nothing.
 use mathlib.Core.Path.{◌≡◌, refl}
-use Prim.Native.Nat.{◌+◌, ◌-◌, ◌≤◌}
 use native.Mathlib.Omega.{arith}
 use Rattle.algebra.specs.Matrix.{tabulate}
-use Rattle.lines.specs.Steps.Blocks.{filled}
 use Rattle.lines.proofs.Filled.{filled_more}
-use Rattle.text.specs.Reading.{value_at}
 use borrow.Author.Rules.{rules}
 use Rattle.answer_matrix.proofs.line_of.Goals as goal
 

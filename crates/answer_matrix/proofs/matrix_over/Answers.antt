@@ -20,7 +20,6 @@ use Rattle.answer_matrix.specs.Steps.Asked.{matrix_kind}
 use Rattle.reply.proofs.Replies.{replied_as}
 use Rattle.reply.proofs.Values.{count_wrong, count_right, value_small, place_below_holds}
 use Rattle.answer_matrix.proofs.GateLines.{lines_read}
-use borrow.Author.Rules.{rules}
 use Rattle.answer_matrix.proofs.matrix_over.Goals as goal
 use Rattle.answer_matrix.proofs.matrix_over.Goals.{Else-count-n, Else-some_too_large, Else-wrong_order, Start}
 

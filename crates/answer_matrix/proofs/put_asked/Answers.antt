@@ -1,5 +1,4 @@
 -- `answer_matrix::put_asked` meets its contract. Assumes nothing.
-use borrow.Author.Rules.{rules}
 use Rattle.answer_matrix.proofs.put_asked.Goals as goal
 
 pub returns-then-gates : goal.returns-then-gates

@@ -1,15 +1,10 @@
 -- `answer_matrix::some_too_large` meets its contract. The loop's invariant: whether a value is too large is whether one from number i on is.
 -- Assumes nothing.
-use mathlib.Core.Path.{◌≡◌, refl, sym, ap, ◌∙◌}
+use mathlib.Core.Path.{◌≡◌}
 use Prim.Native.Nat.{◌-◌, ◌≤◌}
 use lib.ListN.{drop}
-use Rattle.field.specs.Faults.{is_too_large}
 use Rattle.rows.specs.Candidates.{some_too_large}
-use Rattle.search.proofs.Refusals.{test_none, test_found, test_next, large_none}
 use Rattle.text.specs.Reading.{values_from}
-use Rattle.text.proofs.Lengths.{length_values_from}
-use Rattle.reply.proofs.Values.{large_read}
-use borrow.Author.Rules.{rules}
 use Rattle.answer_matrix.proofs.some_too_large.Given as goal
 
 abbrev pub invariant-loop-i : goal.invariant-loop-i

@@ -1,12 +1,9 @@
 -- `answer_row::read_values` meets its contract. The loop's invariant: the values before number i are stored. Assumes nothing.
-use mathlib.Core.Path.{◌≡◌, refl}
+use mathlib.Core.Path.{◌≡◌}
 use Prim.Native.Nat.{◌-◌, ◌≤◌}
-use native.Mathlib.Omega.{arith}
 use mathlib.Core.List.{◌++◌}
 use lib.ListN.{replicate}
 use Rattle.text.specs.Reading.{values_from}
-use Rattle.answer_row.proofs.Found.{values_stored}
-use borrow.Author.Rules.{rules}
 use Rattle.answer_row.proofs.read_values.Given as goal
 
 abbrev pub invariant-loop-i : goal.invariant-loop-i

@@ -1,12 +1,7 @@
 -- `answer_row::widened` meets its contract. The loop's invariant: the entries before place i are stored, and are bytes. Assumes nothing.
-use mathlib.Core.Path.{◌≡◌, refl}
+use mathlib.Core.Path.{◌≡◌}
 use Prim.Native.Nat.{ℕ, ◌-◌, ◌≤◌, ◌<◌}
-use native.Mathlib.Nat.{not-suc-le-zero}
-use native.Mathlib.Omega.{arith}
-use lib.ListN.{length, get_or, length-set}
-use Rattle.field.proofs.ProductTable.{entries_more}
-use Rattle.answer_row.proofs.Found.{same_entries, six_entries}
-use borrow.Author.Rules.{rules}
+use lib.ListN.{length, get_or}
 use Rattle.answer_row.proofs.widened.Given as goal
 
 abbrev pub invariant-loop-i : goal.invariant-loop-i

@@ -8,7 +8,6 @@ use Rattle.field.specs.Polynomial.{degree}
 use Rattle.field.proofs.Degrees.{polynomial}
 use Rattle.field.proofs.Calls.{shifted_width}
 use Rattle.answer_survey.proofs.Surveys.{size_low}
-use borrow.Author.Rules.{rules}
 use Rattle.answer_survey.proofs.nonzero.Goals as goal
 use Rattle.answer_survey.proofs.nonzero.Goals.{After-degree}
 

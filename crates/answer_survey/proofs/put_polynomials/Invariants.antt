@@ -1,15 +1,8 @@
 -- `answer_survey::put_polynomials` meets its contract. The loop's invariant: what is left to write is the lines from place i on.
 -- Assumes nothing.
 use Prim.Native.Nat.{◌≤◌, ◌-◌}
-use native.Mathlib.Omega.{arith}
-use lib.ListN.{get_or}
-use Rattle.field.specs.Table.{table}
-use Rattle.text.specs.Text.{line_text}
-use Rattle.text.proofs.Places.{Rest, rest_start, rest_step, rest_end}
-use Rattle.reply.specs.Due.{survey_line}
+use Rattle.text.proofs.Places.{Rest}
 use Rattle.answer_survey.specs.Steps.TableLines.{lines_from}
-use Rattle.answer_survey.proofs.Surveys.{table_modulus, length_lines, lines_next, lines_end}
-use borrow.Author.Rules.{rules}
 use Rattle.answer_survey.proofs.put_polynomials.Given as goal
 
 abbrev pub invariant-loop-i : goal.invariant-loop-i

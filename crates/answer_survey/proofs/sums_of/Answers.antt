@@ -1,7 +1,7 @@
 -- `answer_survey::sums_of` meets its contract. The loop's invariant: the sums are those of the elements passed. Assumes nothing.
 use mathlib.Core.Path.{◌≡◌, refl, sym, ap, ap₂, ◌∙◌}
 use mathlib.Core.List.{[], ◌∷◌}
-use Prim.Native.Nat.{ℕ, ◌+◌, ◌-◌, ◌*◌, ◌^◌, ◌≤◌}
+use Prim.Native.Nat.{ℕ, ◌+◌, ◌-◌, ◌*◌, ◌^◌}
 use native.Mathlib.Omega.{arith}
 use Rattle.field.specs.Polynomial.{degree, xor_count}
 use Rattle.field.proofs.Calls.{elements_most}

@@ -9,7 +9,6 @@ use Rattle.refusal.proofs.Faults.{after_taken, after_left, after_empty}
 use Rattle.reply.specs.Due.{survey_faults, survey, due_to}
 use Rattle.reply.proofs.Replies.{replied_as}
 use Rattle.reply.proofs.Values.{degree_passed, count_wrong, count_right}
-use borrow.Author.Rules.{rules}
 use Rattle.answer_survey.proofs.survey.Goals as goal
 use Rattle.answer_survey.proofs.survey.Goals.{Else-order-ne0, Else-wrong_degree}
 

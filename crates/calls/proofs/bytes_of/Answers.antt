@@ -1,10 +1,8 @@
 -- `calls::bytes_of` meets its contract. The loop's invariant: the bytes before place i are stored. Assumes nothing.
 use mathlib.Core.Path.{◌≡◌, refl, ◌∙◌}
-use Prim.Native.Nat.{◌-◌, ◌≤◌}
 use native.Mathlib.Omega.{arith}
 use lib.ListN.{length}
-use Rattle.calls.specs.Records.{as_bytes}
-use Rattle.calls.proofs.Stored.{Stored, stored_next, stored_full, length_bytes, byte_at}
+use Rattle.calls.proofs.Stored.{stored_next, stored_full, length_bytes, byte_at}
 use borrow.Author.Rules.{rules}
 use Rattle.calls.proofs.bytes_of.Goals as goal
 

@@ -1,8 +1,7 @@
 -- `calls::main` is safe and ends: a record is read whole, and at most 65,536 are. Assumes nothing.
-use mathlib.Core.Path.{◌≡◌, refl}
+use mathlib.Core.Path.{◌≡◌}
 use Prim.Native.Nat.{◌-◌}
 use lib.ListN.{length}
-use borrow.Author.Rules.{rules}
 use Rattle.calls.proofs.main.Given as goal
 
 abbrev pub invariant-loop-k : goal.invariant-loop-k

@@ -3,7 +3,6 @@ use mathlib.Core.Path.{◌≡◌, refl, ap₂}
 use mathlib.Core.List.{List, ◌∷◌}
 use Prim.Native.Nat.{ℕ}
 use Rattle.calls.specs.Records.{matrix_in}
-use borrow.Author.Rules.{rules}
 use Rattle.calls.proofs.matrix_of.Goals as goal
 
 -- a line before lines

@@ -6,7 +6,6 @@ use native.Mathlib.Omega.{arith}
 use lib.ListN.{drop}
 use Rattle.calls.specs.Replies.{value_reply, words_reply, check_reply, search_reply, walk_reply, no_answer, value_answers, replies, reply_to}
 use Rattle.calls.proofs.Numbered.{at_number, values_kept}
-use borrow.Author.Rules.{rules}
 use Rattle.calls.proofs.reply_to.Goals as goal
 use Rattle.calls.proofs.reply_to.Goals.{Start}
 

@@ -1,7 +1,6 @@
 -- `calls::respond` meets its contract. Assumes nothing.
 use mathlib.Core.Path.{ap, ◌∙◌}
 use Rattle.calls.specs.Records.{as_bytes}
-use borrow.Author.Rules.{rules}
 use Rattle.calls.proofs.respond.Goals as goal
 
 pub returns : goal.returns

@@ -5,7 +5,6 @@ use Prim.Native.Nat.{ℕ, ◌<◌}
 use Rattle.refusal.specs.Refusals.{Answer}
 use Rattle.calls.specs.Replies.{no_answer, value_answers}
 use Rattle.calls.proofs.Numbered.{at_number, unnumbered, five_more}
-use borrow.Author.Rules.{rules}
 use Rattle.calls.proofs.value_call.Goals as goal
 use Rattle.calls.proofs.value_call.Goals.{Start}
 

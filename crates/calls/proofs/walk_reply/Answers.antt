@@ -3,7 +3,6 @@ use mathlib.Core.Path.{ap₂, ◌∙◌}
 use mathlib.Core.List.{◌∷◌}
 use Prim.Native.Nat.{ℕ, ◌%◌, ◌^◌}
 use Rattle.calls.proofs.Numbered.{walk_told}
-use borrow.Author.Rules.{rules}
 use Rattle.calls.proofs.walk_reply.Goals as goal
 
 pub returns : goal.returns

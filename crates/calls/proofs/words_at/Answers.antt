@@ -1,9 +1,7 @@
 -- `calls::words_at` meets its contract. The loop's invariant: the words before place i are stored. Assumes nothing.
 use mathlib.Core.Path.{refl}
-use Prim.Native.Nat.{◌-◌, ◌≤◌}
 use native.Mathlib.Omega.{arith}
-use Rattle.calls.specs.Records.{words_at}
-use Rattle.calls.proofs.Stored.{Stored, stored_next, stored_full, length_words, word_at}
+use Rattle.calls.proofs.Stored.{stored_next, stored_full, length_words, word_at}
 use borrow.Author.Rules.{rules}
 use Rattle.calls.proofs.words_at.Goals as goal
 

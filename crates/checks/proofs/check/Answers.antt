@@ -5,7 +5,6 @@ use Rattle.algebra.specs.Matrix.{is_mds}
 use Rattle.lines.specs.Numbers.{InField}
 use Rattle.matrix.proofs.Theorems.{branch_most}
 use Rattle.checks.specs.Answers.{check_of}
-use borrow.Author.Rules.{rules}
 use Rattle.checks.proofs.check.Goals as goal
 
 pub overflow_cast-result : goal.overflow_cast-result

@@ -4,7 +4,6 @@ use native.Mathlib.Nat.{le_refl}
 use native.Mathlib.Omega.{arith}
 use Rattle.lines.specs.Numbers.{entry, InField}
 use Rattle.matrix.proofs.Theorems.{mds_is_regular}
-use borrow.Author.Rules.{rules}
 use Rattle.checks.proofs.is_mds.Goals as goal
 
 pub regular_between-requires : goal.regular_between-requires

@@ -2,7 +2,6 @@
 use mathlib.Core.Path.{refl}
 use Rattle.checks.specs.Answers.{is_wrong_order, matrix_faults}
 use Rattle.checks.proofs.CallFaults.{matrix_alone, same_faults}
-use borrow.Author.Rules.{rules}
 use Rattle.checks.proofs.matrix_fault.Goals as goal
 
 pub returns : goal.returns

@@ -1,15 +1,11 @@
 -- `checks::value_too_large` meets its contract: the first i lines are looked at, and then the row. Assumes nothing.
-use mathlib.Core.Path.{◌≡◌, refl, ap₂}
-use mathlib.Core.Bool.{Bool, ◌||◌}
+use mathlib.Core.Path.{◌≡◌}
+use mathlib.Core.Bool.{Bool}
 use mathlib.Core.List.{List, []}
-use Prim.Native.Nat.{ℕ, ◌-◌, ◌≤◌, zero-le}
-use native.Mathlib.Omega.{arith}
+use Prim.Native.Nat.{ℕ, ◌-◌, ◌≤◌}
 use lib.ListN.{get_or}
 use Rattle.field.specs.Polynomial.{some_below}
 use Rattle.checks.specs.Answers.{some_word_too_large}
-use Rattle.checks.specs.Steps.{some_value_too_large}
-use Rattle.checks.proofs.CallFaults.{some_next}
-use borrow.Author.Rules.{rules}
 use Rattle.checks.proofs.value_too_large.Given as goal
 
 -- line i has a word that is too large

@@ -1,15 +1,10 @@
 -- `checks::word_too_large` meets its contract: the first j words are looked at. Assumes nothing.
 use mathlib.Core.Path.{◌≡◌, refl}
-use mathlib.Core.Bool.{Bool}
-use mathlib.Core.List.{List}
-use Prim.Native.Nat.{ℕ, ◌-◌, ◌≤◌, zero-le}
+use Prim.Native.Nat.{zero-le}
 use native.Mathlib.Omega.{arith}
-use lib.ListN.{get_or}
 use Rattle.field.specs.Polynomial.{some_below}
-use Rattle.field.specs.Faults.{is_too_large}
 use Rattle.checks.specs.Answers.{some_word_too_large}
 use Rattle.checks.proofs.CallFaults.{some_next}
-use borrow.Author.Rules.{rules}
 use Rattle.checks.proofs.word_too_large.Invariants.{test}
 use Rattle.checks.proofs.word_too_large.Goals as goal
 

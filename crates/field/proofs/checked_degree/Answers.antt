@@ -7,7 +7,6 @@ use Rattle.refusal.proofs.Faults.{number_not_zero, after_none, after_number}
 use Rattle.field.specs.Polynomial.{degree}
 use Rattle.field.specs.Faults.{polynomial_faults}
 use Rattle.field.proofs.Calls.{below_range, above_range, outside_number, reducible_number, modulus_number}
-use borrow.Author.Rules.{rules}
 use Prim.Native.Nat.{ℕ}
 use Rattle.field.proofs.checked_degree.Goals as goal
 

@@ -5,7 +5,6 @@ use Rattle.refusal.proofs.Faults.{outcome_refused}
 use Rattle.field.specs.Polynomial.{Modulus}
 use Rattle.field.specs.Faults.{polynomial_faults, count_faults}
 use Rattle.field.proofs.Calls.{degree_modulus, modulus_passed, modulus_fits}
-use borrow.Author.Rules.{rules}
 use Rattle.field.proofs.checked_xor_count.Goals as goal
 use Rattle.field.proofs.checked_xor_count.Goals.{In-Value}
 

@@ -10,7 +10,6 @@ use Rattle.field.specs.Doubling.{xtime}
 use Rattle.field.proofs.Sum.{selected}
 use Rattle.field.proofs.Degrees.{polynomial}
 use Rattle.field.proofs.Doubling.{bit_double, xtime_rem}
-use borrow.Author.Rules.{rules}
 use Rattle.field.proofs.double.Goals as goal
 
 shifted : (x m : ℕ) → x < 2 ^ m → m ≤ 8 → x * 2 < 65536
@@ -23,7 +22,7 @@ pub overflow_shr-reached : goal.overflow_shr-reached
 overflow_shr-reached c = omega (arith, c.degree.ensures, (polynomial c.args.p c.requires.0).most)
 
 pub overflow_mul-result : goal.overflow_mul-result
-overflow_mul-result c = record { fits = selected (c.args.x / 2 ^ (c.degree.result - 1)) c.args.p 16 (omega arith) }
+overflow_mul-result c = record { fits = selected _ _ 16 (omega arith) }
 
 -- the bit that the shift moves to the place of the degree
 reached : (m x d : ℕ) → 2 ≤ m → d ≡ m → bit_and (x / 2 ^ (d - 1)) 1 ≡ bit m (x * 2)

@@ -2,12 +2,10 @@
 use mathlib.Core.Path.{sym, ap, ◌∙◌}
 use native.Mathlib.Nat.{pos_of_ne-zero}
 use borrow.Author.Tests.{eq-eqb, ne_eqb}
-use Rattle.field.specs.Polynomial.{inverse}
 use Rattle.refusal.specs.Refusals.{answer}
 use Rattle.refusal.specs.declared.Refusal.TheVariants.{ValueRange, BadCandidate}
 use Rattle.refusal.proofs.Faults.{after_taken, after_left, after_empty}
 use Rattle.field.proofs.Calls.{not_too_large, element_fits}
-use borrow.Author.Rules.{rules}
 use Rattle.field.proofs.inverse_over.Goals as goal
 
 pub returns-then-too_large : goal.returns-then-too_large

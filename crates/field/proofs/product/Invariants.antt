@@ -1,18 +1,8 @@
 -- `field::product` meets its contract, in the steps of FIPS 197 (2001), section 4.2.1: what the values of a turn are say `doubled_power` and `sum_after_holds`.
 -- Assumes nothing.
-use mathlib.Core.Path.{◌≡◌, refl, sym, ap, ap₂, ◌∙◌, subst, subst⁻¹}
-use Prim.Native.Nat.{ℕ, suc, ◌*◌, ◌/◌, ◌%◌, ◌^◌, ◌<◌}
-use native.Mathlib.Nat.{div-one, div-lt_iff_lt-mul, lt_of_lt_of_le, pow-suc}
-use native.Mathlib.Numerals.{add-one}
-use native.Mathlib.Omega.{arith}
-use lib.Pow.{pow_mono, pow_pos, shr-shr}
-use lib.Bits.{bit_and, bit_xor, and_mask}
-use Rattle.field.specs.Polynomial.{bit, ◌⊕◌, degree, product, Modulus}
-use Rattle.field.specs.Doubling.{xtime, doubled, sum_after}
-use Rattle.field.proofs.Sum.{sum_zero_l, selected}
-use Rattle.field.proofs.Degrees.{polynomial}
-use Rattle.field.proofs.Field.{times_lt}
-use Rattle.field.proofs.Doubling.{xtime_rem, doubled_power, sum_after_holds, sum_whole}
+use mathlib.Core.Path.{◌≡◌}
+use Prim.Native.Nat.{ℕ, suc, ◌/◌, ◌^◌}
+use Rattle.field.specs.Doubling.{doubled, sum_after}
 use Rattle.field.proofs.product.Given as goal
 
 -- ---- the invariant

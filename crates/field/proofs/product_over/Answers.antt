@@ -1,13 +1,11 @@
 -- `field::product_over` meets its contract. Assumes nothing.
 use mathlib.Core.Path.{◌≡◌, sym, ap, ap₂, ◌∙◌}
 use mathlib.Core.Bool.{Bool, false, ◌||◌, or-true}
-use Rattle.field.specs.Polynomial.{product}
 use Rattle.refusal.specs.Refusals.{answer}
 use Rattle.refusal.specs.declared.Refusal.TheVariants.{ValueRange}
 use Rattle.refusal.proofs.Faults.{after_taken, after_left, after_empty}
 use Rattle.field.specs.Faults.{is_too_large}
 use Rattle.field.proofs.Calls.{not_too_large, element_fits}
-use borrow.Author.Rules.{rules}
 use Rattle.field.proofs.product_over.Goals as goal
 use Rattle.field.proofs.product_over.Goals.{Else-too_large-2}
 

@@ -1,6 +1,6 @@
 -- `field::products` meets its contract: after i turns the table has its first i entries. Assumes nothing.
 use mathlib.Core.Path.{◌≡◌}
-use Prim.Native.Nat.{ℕ, ◌*◌, ◌-◌, ◌/◌, ◌^◌, ◌≤◌, ◌<◌, zero-le}
+use Prim.Native.Nat.{ℕ, ◌*◌, ◌/◌, ◌^◌, ◌<◌, zero-le}
 use native.Mathlib.Nat.{lt_of_lt_of_le}
 use native.Mathlib.Omega.{arith}
 use lib.Dec.{lit≤}
@@ -8,8 +8,7 @@ use lib.ListN.{length-replicate, get_or-replicate}
 use Rattle.field.specs.Polynomial.{degree}
 use Rattle.field.proofs.Degrees.{polynomial}
 use Rattle.field.proofs.Calls.{elements_most, shifted_width}
-use Rattle.field.proofs.ProductTable.{Filled, filled_none, filled_half, filled_more, filled_all}
-use borrow.Author.Rules.{rules}
+use Rattle.field.proofs.ProductTable.{filled_none, filled_half, filled_more, filled_all}
 use Rattle.field.proofs.products.Goals as goal
 use Rattle.field.proofs.products.Goals.{In-loop-i}
 

@@ -8,7 +8,6 @@ use lib.Pow.{pow_mono}
 use Rattle.field.specs.Polynomial.{degree}
 use Rattle.field.specs.Faults.{is_too_large}
 use Rattle.field.proofs.Degrees.{polynomial}
-use borrow.Author.Rules.{rules}
 use Rattle.field.proofs.too_large.Goals as goal
 
 pub overflow_shl-result : goal.overflow_shl-result

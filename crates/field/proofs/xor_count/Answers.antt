@@ -1,6 +1,6 @@
 -- `field::xor_count` meets its contract: after j turns the column is a times 2^j, and the ones of the columns before it are counted.
 -- Assumes nothing.
-use mathlib.Core.Path.{◌≡◌, refl, sym, ap, ap₂, ◌∙◌, subst, subst⁻¹, subst₂}
+use mathlib.Core.Path.{◌≡◌, refl, sym, ap, ap₂, ◌∙◌, subst⁻¹, subst₂}
 use Prim.Native.Nat.{ℕ, ◌+◌, ◌-◌, ◌*◌, ◌^◌, ◌≤◌, ◌<◌, zero-le}
 use native.Mathlib.Nat.{pos_of_ne-zero, pow-suc, le_refl, lt_of_le_of_lt, lt_of_lt_of_le}
 use native.Mathlib.Numerals.{add-one}
@@ -13,7 +13,6 @@ use Rattle.field.proofs.Degrees.{polynomial}
 use Rattle.field.proofs.Field.{times_one_r, times_double, times_lt}
 use Rattle.field.proofs.Irreducibility.{irreducible_to}
 use Rattle.field.proofs.Inverses.{columns_ones, columns_most, count_positive}
-use borrow.Author.Rules.{rules}
 use Rattle.field.proofs.xor_count.Goals as goal
 use Rattle.field.proofs.xor_count.Goals.{After-loop-j, In-loop-j}
 

@@ -4,7 +4,6 @@ use Rattle.refusal.specs.Refusals.{answer}
 use Rattle.refusal.specs.declared.Refusal.TheVariants.{ValueRange}
 use Rattle.refusal.proofs.Faults.{after_taken, after_left, after_empty}
 use Rattle.field.proofs.Calls.{not_too_large, element_fits}
-use borrow.Author.Rules.{rules}
 use Rattle.field.proofs.xor_count_over.Goals as goal
 
 pub returns-then-too_large : goal.returns-then-too_large

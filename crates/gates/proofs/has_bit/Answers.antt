@@ -8,7 +8,6 @@ use lib.Dec.{eqb}
 use lib.Pow.{shl_exact}
 use Rattle.field.specs.Polynomial.{product}
 use Rattle.lines.specs.Depths.{bit}
-use borrow.Author.Rules.{rules}
 use Rattle.gates.proofs.has_bit.Goals as goal
 
 pub returns : goal.returns

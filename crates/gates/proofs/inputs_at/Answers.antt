@@ -3,12 +3,10 @@ use mathlib.Core.Path.{ap, ◌∙◌}
 use Prim.Native.Nat.{ℕ, ◌/◌, ◌%◌, ◌≤◌, ◌<◌}
 use native.Mathlib.Nat.{mod-lt, div-lt_iff_lt-mul}
 use native.Mathlib.Omega.{arith}
-use Rattle.field.specs.Polynomial.{degree}
 use Rattle.field.proofs.Degrees.{polynomial}
 use Rattle.lines.specs.Numbers.{entry, InField, WordsInField}
 use Rattle.gates.specs.Gates.{inputs_of}
 use Rattle.gates.specs.Steps.{as_inputs}
-use borrow.Author.Rules.{rules}
 use Rattle.gates.proofs.inputs_at.Goals as goal
 use Rattle.gates.proofs.inputs_at.Goals.{After-degree-m}
 

@@ -1,18 +1,14 @@
 -- `gates::inputs_of` meets its contract. Assumes nothing.
 use mathlib.Core.Path.{◌≡◌, sym, ap₂, ◌∙◌}
-use mathlib.Core.Logic.{⊎_elim}
-use Prim.Native.Nat.{◌-◌, ◌*◌, ◌/◌, ◌%◌, ◌≤◌, ◌<◌, zero-le}
+use Prim.Native.Nat.{◌*◌, ◌/◌, ◌%◌, ◌≤◌, ◌<◌, zero-le}
 use native.Mathlib.Nat.{mod-lt, div-lt_iff_lt-mul, mul-le-mul}
 use native.Mathlib.Omega.{arith}
 use lib.ListN.{get_or}
 use Rattle.field.specs.Polynomial.{degree}
-use Rattle.field.specs.Table.{passing}
 use Rattle.field.proofs.Degrees.{polynomial}
 use Rattle.lines.specs.Numbers.{WordsInField}
 use Rattle.gates.specs.Gates.{is_input, inputs_of}
-use Rattle.gates.specs.Steps.{as_inputs}
 use Rattle.gates.proofs.InputArrays.{inputs_in, inputs_none, inputs_room, inputs_left, inputs_taken}
-use borrow.Author.Rules.{rules}
 use Rattle.gates.proofs.inputs_of.Goals as goal
 use Rattle.gates.proofs.inputs_of.Goals.{After-degree-m, After-has_bit, In-loop-v, then-has_bit, else-has_bit}
 
@@ -87,9 +83,9 @@ loop-v-preserved c =
     let at = c.loop-v in (
       omega (arith, c.loop-v-test.true),
       elim c.if-has_bit.branch [
-            | then-has_bit w ↦ ap₂ inputs_in w.list-is w.count-is ∙ inputs_taken _ at.list at.count at.v at.invariant.1 (test (goal.at.loop-v-preserved c).After-has_bit ∙ w.if-has_bit.true) (below (goal.at.loop-v-preserved c).In-loop-v)
-            | else-has_bit w ↦ ap₂ inputs_in w.list-is w.count-is ∙ inputs_left _ at.list at.count at.v at.invariant.1 (test (goal.at.loop-v-preserved c).After-has_bit ∙ w.if-has_bit.false)
-          ],
+        | then-has_bit w ↦ ap₂ inputs_in w.list-is w.count-is ∙ inputs_taken _ at.list at.count at.v at.invariant.1 (test (goal.at.loop-v-preserved c).After-has_bit ∙ w.if-has_bit.true) (below (goal.at.loop-v-preserved c).In-loop-v)
+        | else-has_bit w ↦ ap₂ inputs_in w.list-is w.count-is ∙ inputs_left _ at.list at.count at.v at.invariant.1 (test (goal.at.loop-v-preserved c).After-has_bit ∙ w.if-has_bit.false)
+      ],
     )
 
 pub returns : goal.returns

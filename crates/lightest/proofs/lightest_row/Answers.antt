@@ -6,7 +6,6 @@ use Rattle.cuts.specs.Steps.Families.{cuts_of}
 use Rattle.cuts.proofs.Families.{family_most, family_least, family_rows}
 use Rattle.lightest.proofs.LetterCounts.{listed_fits}
 use Rattle.lightest.proofs.Start.{start_at, start_answer}
-use borrow.Author.Rules.{rules}
 use Rattle.field.proofs.Calls.{elements_most}
 use Rattle.lightest.proofs.lightest_row.Goals as goal
 
@@ -33,14 +32,13 @@ pub slice_bounds-extend-end : goal.slice_bounds-extend-end
 slice_bounds-extend-end c = sym (length-take-le _ _ (listed_fits _ _ c.letters_of-known.ensures))
 
 pub extend-requires : goal.extend-requires
-extend-requires c =
-    (
-      start_at c.args.p c.args.n c.requires.0 c.args.candidates.now c.requires.2 c.requires.3 _ _ _ _ c.count_table-counts.ensures
-          c.size.ensures c.letters_of-known.ensures c.least_count-least.ensures
-          (cuts_of c.args.family c.args.p c.args.n) c.requires.1 (family_least c.args.family c.args.n c.requires.1) (family_most c.args.family c.args.n c.requires.1),
-      c.products-products.ensures,
-      c.ones_table-ones.ensures,
-    )
+extend-requires c = (
+  start_at c.args.p c.args.n c.requires.0 c.args.candidates.now c.requires.2 c.requires.3 _ _ _ _ c.count_table-counts.ensures
+      c.size.ensures c.letters_of-known.ensures c.least_count-least.ensures
+      (cuts_of c.args.family c.args.p c.args.n) c.requires.1 (family_least c.args.family c.args.n c.requires.1) (family_most c.args.family c.args.n c.requires.1),
+  c.products-products.ensures,
+  c.ones_table-ones.ensures,
+)
 
 pub returns : goal.returns
 returns c =

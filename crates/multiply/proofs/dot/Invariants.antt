@@ -1,13 +1,10 @@
 -- `multiply::dot` meets its contract: after j turns the first j products are added. Assumes nothing.
-use mathlib.Core.Path.{◌≡◌, refl}
-use Prim.Native.Nat.{◌-◌, ◌≤◌, zero-le}
-use native.Mathlib.Omega.{arith}
+use mathlib.Core.Path.{◌≡◌}
+use Prim.Native.Nat.{◌-◌, ◌≤◌}
 use lib.ListN.{get_or}
 use Rattle.algebra.specs.Matrix.{sum}
 use Rattle.field.specs.Polynomial.{product}
-use Rattle.lines.specs.Numbers.{numbers, WordsInField}
-use Rattle.lines.proofs.Filled.{sum_more}
-use borrow.Author.Rules.{rules}
+use Rattle.lines.specs.Numbers.{numbers}
 use Rattle.multiply.proofs.dot.Given as goal
 
 abbrev pub invariant-loop-j : goal.invariant-loop-j

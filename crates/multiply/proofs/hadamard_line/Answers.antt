@@ -1,15 +1,11 @@
 -- `multiply::hadamard_line` meets its contract: after j turns the first j entries are stored. Assumes nothing.
 use mathlib.Core.Path.{◌≡◌, refl}
-use Prim.Native.Nat.{◌-◌, ◌≤◌, zero-le}
+use Prim.Native.Nat.{zero-le}
 use native.Mathlib.Nat.{lt_of_lt_of_le}
 use native.Mathlib.Omega.{arith}
-use lib.ListN.{get_or}
 use Rattle.algebra.specs.Matrix.{tabulate}
-use Rattle.lines.specs.Steps.Blocks.{filled}
 use Rattle.lines.proofs.Filled.{filled_more}
-use lib.Bits.{bit_xor}
 use Rattle.multiply.proofs.Halving.{exponent, xor_below}
-use borrow.Author.Rules.{rules}
 use Rattle.multiply.proofs.hadamard_line.Goals as goal
 
 pub loop-j-init : goal.loop-j-init

@@ -1,15 +1,10 @@
 -- `multiply::hadamard_matrix` meets its contract: after i turns the first i lines are stored. Assumes nothing.
-use mathlib.Core.Path.{◌≡◌, refl}
+use mathlib.Core.Path.{◌≡◌}
 use mathlib.Core.List.{List}
-use Prim.Native.Nat.{ℕ, ◌-◌, ◌≤◌, zero-le}
-use native.Mathlib.Omega.{arith}
+use Prim.Native.Nat.{ℕ, ◌-◌, ◌≤◌}
 use lib.Bits.{bit_xor}
 use lib.ListN.{get_or, replicate}
-use Rattle.algebra.specs.Matrix.{tabulate}
-use Rattle.lines.specs.Steps.Blocks.{filled, framed}
-use Rattle.lines.proofs.Filled.{filled_more}
-use Rattle.multiply.proofs.Halving.{exponent}
-use borrow.Author.Rules.{rules}
+use Rattle.lines.specs.Steps.Blocks.{filled}
 use Rattle.multiply.proofs.hadamard_matrix.Given as goal
 
 -- line i

@@ -1,15 +1,10 @@
 -- `multiply::plain` meets its contract: after i turns the first i words are those of the product. Assumes nothing.
 use mathlib.Core.Path.{◌≡◌, refl}
-use mathlib.Core.List.{List}
-use Prim.Native.Nat.{ℕ, ◌-◌, ◌≤◌, zero-le}
+use Prim.Native.Nat.{zero-le}
 use native.Mathlib.Omega.{arith}
-use lib.ListN.{get_or}
-use Rattle.algebra.specs.Matrix.{tabulate, sum, apply}
-use Rattle.field.specs.Polynomial.{product}
-use Rattle.lines.specs.Numbers.{numbers, entry, InField, WordsInField}
-use Rattle.lines.specs.Steps.Blocks.{filled}
+use Rattle.algebra.specs.Matrix.{tabulate, apply}
+use Rattle.lines.specs.Numbers.{InField, WordsInField}
 use Rattle.lines.proofs.Filled.{filled_more}
-use borrow.Author.Rules.{rules}
 use Rattle.multiply.proofs.plain.Goals as goal
 
 pub loop-i-init : goal.loop-i-init

@@ -1,15 +1,12 @@
 -- `multiply::plain` meets its contract: after i turns the first i words are those of the product. Assumes nothing.
-use mathlib.Core.Path.{◌≡◌, refl}
+use mathlib.Core.Path.{◌≡◌}
 use mathlib.Core.List.{List}
-use Prim.Native.Nat.{ℕ, ◌-◌, ◌≤◌, zero-le}
-use native.Mathlib.Omega.{arith}
+use Prim.Native.Nat.{ℕ, ◌-◌, ◌≤◌}
 use lib.ListN.{get_or}
-use Rattle.algebra.specs.Matrix.{tabulate, sum, apply}
+use Rattle.algebra.specs.Matrix.{sum}
 use Rattle.field.specs.Polynomial.{product}
-use Rattle.lines.specs.Numbers.{numbers, entry, InField, WordsInField}
+use Rattle.lines.specs.Numbers.{numbers, entry}
 use Rattle.lines.specs.Steps.Blocks.{filled}
-use Rattle.lines.proofs.Filled.{filled_more}
-use borrow.Author.Rules.{rules}
 use Rattle.multiply.proofs.plain.Given as goal
 
 -- word i of the product

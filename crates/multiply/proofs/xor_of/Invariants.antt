@@ -1,12 +1,9 @@
 -- `multiply::xor_of` meets its contract: after i turns the first i words are added. Assumes nothing.
-use mathlib.Core.Path.{◌≡◌, refl}
+use mathlib.Core.Path.{◌≡◌}
 use mathlib.Core.List.{foldl}
-use Prim.Native.Nat.{◌-◌, ◌≤◌, zero-le}
-use native.Mathlib.Omega.{arith}
+use Prim.Native.Nat.{◌-◌, ◌≤◌}
 use lib.ListN.{take}
 use Rattle.field.specs.Polynomial.{◌⊕◌}
-use Rattle.lines.proofs.Filled.{xor_more}
-use borrow.Author.Rules.{rules}
 use Rattle.multiply.proofs.xor_of.Given as goal
 
 abbrev pub invariant-loop-i : goal.invariant-loop-i

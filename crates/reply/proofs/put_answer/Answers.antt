@@ -3,7 +3,6 @@ use mathlib.Core.List.{[], ◌∷◌}
 use native.Mathlib.Omega.{arith}
 use Rattle.text.proofs.Answers.{answer_one}
 use Rattle.reply.proofs.Replies.{lines_written, lines_short, one_length}
-use borrow.Author.Rules.{rules}
 use Rattle.reply.proofs.put_answer.Goals as goal
 
 pub returns-then-space-numbers : goal.returns-then-space-numbers

@@ -5,7 +5,6 @@ use Rattle.text.specs.Text.{line_text}
 use Rattle.text.proofs.Lengths.{length_line}
 use Rattle.text.proofs.Places.{put_join, put_long}
 use Rattle.reply.proofs.Replies.{lines_written, lines_short, two_text, two_length}
-use borrow.Author.Rules.{rules}
 use Rattle.reply.proofs.put_answers.Goals as goal
 
 pub returns-then-space-numbers : goal.returns-then-space-numbers

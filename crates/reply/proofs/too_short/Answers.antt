@@ -1,7 +1,6 @@
 -- `reply::too_short` meets its contract. Assumes nothing.
 use mathlib.Core.Path.{ap}
 use Prim.Native.Nat.{ℕ}
-use borrow.Author.Rules.{rules}
 use Rattle.reply.proofs.too_short.Goals as goal
 
 pub returns : goal.returns

@@ -6,7 +6,6 @@ use lib.Dec.{lit≤}
 use lib.Seq.{length-take-le}
 use Rattle.answer.proofs.Shown.{shown_answer, shown_refusal}
 use Rattle.answer.proofs.WholeInput.{first_bytes}
-use borrow.Author.Rules.{rules}
 use Rattle.rowfind.proofs.respond.Goals as goal
 
 pub slice_bounds-answer-end : goal.slice_bounds-answer-end

@@ -7,7 +7,6 @@ use Rattle.refusal.proofs.Faults.{after_taken, after_left, after_empty}
 use Rattle.field.proofs.Calls.{modulus_passed}
 use Rattle.rows.specs.Candidates.{some_too_large, some_bad}
 use Rattle.search.specs.Answer.{is_wrong_order_for, is_wrong_count_for}
-use borrow.Author.Rules.{rules}
 use Rattle.search.proofs.brief_over.Goals as goal
 use Rattle.search.proofs.brief_over.Goals.{Else-is_wrong_count, Else-is_wrong_order, Else-some_bad, Else-some_too_large}
 

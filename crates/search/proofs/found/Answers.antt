@@ -1,6 +1,5 @@
 -- `search::found` meets its contract. Assumes nothing.
 use Rattle.search.proofs.Refusals.{says_found, says_none}
-use borrow.Author.Rules.{rules}
 use Rattle.search.proofs.found.Goals as goal
 
 pub returns-then-best : goal.returns-then-best

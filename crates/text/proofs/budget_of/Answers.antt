@@ -1,6 +1,5 @@
 -- `text::budget_of` meets its contract: the number behind the count, where line one has one.
 -- Assumes nothing.
-use borrow.Author.Rules.{rules}
 use mathlib.Core.Path.{◌≡◌, sym, ◌∙◌}
 use Rattle.text.specs.Text.{further_numbers}
 use Rattle.text.specs.Reading.{kind_of}

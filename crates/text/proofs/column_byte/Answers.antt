@@ -1,6 +1,5 @@
 -- `text::column_byte` meets its contract: each arm is the case of `column_byte` that the test picks.
 -- Assumes nothing.
-use borrow.Author.Rules.{rules}
 use borrow.Author.Tests.{lt-ltb, le-ltb}
 use Rattle.text.specs.Text.{column_byte}
 use Rattle.text.proofs.column_byte.Goals as goal

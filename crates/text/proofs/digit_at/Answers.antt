@@ -1,6 +1,5 @@
 -- `text::digit_at` meets its contract: behind the end of the text the byte counts as 0.
 -- Assumes nothing.
-use borrow.Author.Rules.{rules}
 use lib.ListN.{get_or-eq_default}
 use Rattle.text.proofs.digit_at.Goals as goal
 

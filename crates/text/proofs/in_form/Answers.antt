@@ -1,7 +1,6 @@
 -- `text::in_form` meets its contract. A text that is too short, too long or of too many values is not in form, since a text in form has
 -- the length that its kind and its count say; any other is compared with the text written anew.
 -- Assumes nothing.
-use borrow.Author.Rules.{rules}
 use Prim.Native.Nat.{◌≤◌}
 use lib.ListN.{length}
 use lib.Seq.{length-take-le}

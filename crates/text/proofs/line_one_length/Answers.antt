@@ -1,6 +1,5 @@
 -- `text::line_one_length` meets its contract: six bytes more for each further number.
 -- Assumes nothing.
-use borrow.Author.Rules.{rules}
 use native.Mathlib.Omega.{arith}
 use Rattle.text.specs.Reading.{line_one_length}
 use Rattle.text.proofs.Lengths.{further_le}

@@ -1,6 +1,5 @@
 -- `text::number_at` meets its contract: three numbers of two columns make up the definition's sum of six digits.
 -- Assumes nothing.
-use borrow.Author.Rules.{rules}
 use native.Mathlib.Nat.{add_assoc}
 use native.Mathlib.Omega.{arith}
 use Rattle.text.specs.Reading.{number_at}

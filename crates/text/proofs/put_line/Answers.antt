@@ -3,11 +3,10 @@
 use borrow.Author.Rules.{rules}
 use mathlib.Core.List.{[], ◌∷◌}
 use mathlib.Core.Path.{◌∙◌}
-use Prim.Native.Nat.{◌≤◌, ◌-◌}
 use native.Mathlib.Omega.{arith}
-use lib.ListN.{length, length-drop, drop}
+use lib.ListN.{length-drop, drop}
 use Rattle.text.specs.Text.{columns, line_text, SixDigits}
-use Rattle.text.proofs.Places.{Rest, rest_start, put_join, put_long}
+use Rattle.text.proofs.Places.{rest_start, put_join, put_long}
 use Rattle.text.proofs.Loops.{line_step, line_end_holds}
 use Rattle.text.proofs.Lengths.{length_columns}
 use Rattle.text.proofs.put_line.Goals as goal

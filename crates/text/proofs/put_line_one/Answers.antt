@@ -1,6 +1,5 @@
 -- `text::put_line_one` meets its contract: the numbers of the line are those that are read, as many as the kind has.
 -- Assumes nothing.
-use borrow.Author.Rules.{rules}
 use mathlib.Core.Path.{◌≡◌, sym}
 use mathlib.Core.List.{List, [], ◌∷◌}
 use Prim.Native.Nat.{ℕ, ◌+◌, ◌≤◌}

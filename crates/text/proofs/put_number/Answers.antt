@@ -1,6 +1,5 @@
 -- `text::put_number` meets its contract: its six stores are a run of the six bytes of `column`.
 -- Assumes nothing.
-use borrow.Author.Rules.{rules}
 use native.Mathlib.Omega.{arith}
 use native.Mathlib.Numerals.{towards_suc}
 use lib.ListN.{length-set}

@@ -1,6 +1,5 @@
 -- `text::put_value` meets its contract: a number, and a line's end behind it where the line is full or the value is the last.
 -- Assumes nothing.
-use borrow.Author.Rules.{rules}
 use mathlib.Core.List.{[], ◌∷◌, append-nil}
 use Rattle.text.proofs.Lengths.{length_column, end_yes, end_no}
 use mathlib.Core.Path.{sym, ap, ◌∙◌}
@@ -11,11 +10,10 @@ use Rattle.text.proofs.Places.{put_join, put_long}
 use Rattle.text.proofs.put_value.Goals as goal
 
 pub put_number-next-requires : goal.put_number-next-requires
-put_number-next-requires c =
-    (
-      omega (arith, length-append (column c.args.v) (line_end c.args.i c.args.left), length_column c.args.v),
-      c.requires.1,
-    )
+put_number-next-requires c = (
+  omega (arith, length-append (column c.args.v) (line_end c.args.i c.args.left), length_column c.args.v),
+  c.requires.1,
+)
 
 pub put_newline-requires : goal.put_newline-requires
 put_newline-requires c =

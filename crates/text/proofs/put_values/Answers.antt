@@ -1,13 +1,10 @@
 -- `text::put_values` meets its contract. The loop's invariant: what is left to write is the values from i on.
 -- Assumes nothing.
 use borrow.Author.Rules.{rules}
-use Prim.Native.Nat.{◌≤◌, ◌-◌}
 use native.Mathlib.Omega.{arith}
-use Rattle.text.specs.Text.{value_text}
-use Rattle.text.specs.Reading.{values_from}
 use Rattle.text.proofs.Numbers.{value_six}
-use Rattle.text.proofs.Places.{Rest, rest_start}
-use Rattle.text.proofs.Loops.{values_left, values_start, values_room, values_step, values_end}
+use Rattle.text.proofs.Places.{rest_start}
+use Rattle.text.proofs.Loops.{values_start, values_room, values_step, values_end}
 use Rattle.text.proofs.put_values.Goals as goal
 
 pub loop-i-init : goal.loop-i-init
@@ -20,12 +17,11 @@ put_value-next-requires c =
     (omega (arith, values_room s c.args.count c.loop-i.i c.loop-i-test.true), value_six s c.loop-i.i)
 
 pub loop-i-preserved : goal.loop-i-preserved
-loop-i-preserved c =
-    (
-      search rules,
-      values_step c.args.values.now c.args.count c.loop-i.i (search rules) c.loop-i.invariant.1
-          (rw c.value_at.ensures at c.put_value-next.ensures),
-    )
+loop-i-preserved c = (
+  search rules,
+  values_step c.args.values.now c.args.count c.loop-i.i (search rules) c.loop-i.invariant.1
+      (rw c.value_at.ensures at c.put_value-next.ensures),
+)
 
 pub shape_of-space : goal.shape_of-space
 shape_of-space c = c.loop-i.invariant.1.long

@@ -1,6 +1,5 @@
 -- `text::read_header` meets its contract: the numbers of a text in form are those that are read.
 -- Assumes nothing.
-use borrow.Author.Rules.{rules}
 use mathlib.Core.Path.{sym, ap, ◌∙◌}
 use mathlib.Core.Bool.{not}
 use mathlib.Core.List.{[]}

@@ -1,6 +1,5 @@
 -- `text::rewrite` meets its contract: line one, and the values behind it, are the request text of what is read.
 -- Assumes nothing.
-use borrow.Author.Rules.{rules}
 use mathlib.Core.Path.{◌≡◌, ap}
 use native.Mathlib.Omega.{arith}
 use lib.ListN.{length, length-append}

@@ -1,11 +1,9 @@
 -- `text::same_bytes` meets its contract. The loop's invariant: the comparison of the bytes from i on is that of all bytes.
 -- Assumes nothing.
 use borrow.Author.Rules.{rules}
-use mathlib.Core.Path.{◌≡◌, refl, sym, ap, ◌∙◌}
-use Prim.Native.Nat.{◌≤◌, ◌-◌}
+use mathlib.Core.Path.{refl, sym, ap, ◌∙◌}
 use native.Mathlib.Omega.{arith}
-use lib.ListN.{length, drop}
-use Rattle.text.specs.Reading.{same_bytes}
+use lib.ListN.{length}
 use Rattle.text.proofs.Compare.{same_more, same_stop, same_end, same_other}
 use Rattle.text.proofs.same_bytes.Goals as goal
 

@@ -1,12 +1,9 @@
 -- `text::same_bytes` meets its contract. The loop's invariant: the comparison of the bytes from i on is that of all bytes.
 -- Assumes nothing.
-use borrow.Author.Rules.{rules}
-use mathlib.Core.Path.{◌≡◌, refl, sym, ap, ◌∙◌}
+use mathlib.Core.Path.{◌≡◌}
 use Prim.Native.Nat.{◌≤◌, ◌-◌}
-use native.Mathlib.Omega.{arith}
 use lib.ListN.{length, drop}
 use Rattle.text.specs.Reading.{same_bytes}
-use Rattle.text.proofs.Compare.{same_more, same_stop, same_end, same_other}
 use Rattle.text.proofs.same_bytes.Given as goal
 
 abbrev pub invariant-loop-i : goal.invariant-loop-i

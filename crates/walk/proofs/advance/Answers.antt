@@ -1,10 +1,9 @@
 -- `walk::advance` meets its contract: it stands after the rows of the budget that are tried. Assumes nothing.
 use mathlib.Core.Path.{◌≡◌, ap, ◌∙◌}
-use Prim.Native.Nat.{suc, ◌+◌, ◌-◌, ◌≤◌}
+use Prim.Native.Nat.{suc, ◌+◌, ◌-◌}
 use native.Mathlib.Omega.{arith}
 use Rattle.walk.specs.Steps.Positions.{position_at, StandsAt}
 use Rattle.walk.proofs.Positions.{position_stands, position_left, position_end}
-use borrow.Author.Rules.{rules}
 use Rattle.walk.proofs.advance.Goals as goal
 
 pub loop-left-init : goal.loop-left-init

@@ -1,10 +1,7 @@
 -- `walk::advance` meets its contract: it stands after the rows of the budget that are tried. Assumes nothing.
-use mathlib.Core.Path.{◌≡◌, ap, ◌∙◌}
-use Prim.Native.Nat.{suc, ◌+◌, ◌-◌, ◌≤◌}
-use native.Mathlib.Omega.{arith}
-use Rattle.walk.specs.Steps.Positions.{position_at, StandsAt}
-use Rattle.walk.proofs.Positions.{position_stands, position_left, position_end}
-use borrow.Author.Rules.{rules}
+use mathlib.Core.Path.{◌≡◌}
+use Prim.Native.Nat.{◌+◌, ◌-◌, ◌≤◌}
+use Rattle.walk.specs.Steps.Positions.{position_at}
 use Rattle.walk.proofs.advance.Given as goal
 
 abbrev pub invariant-loop-left : goal.invariant-loop-left

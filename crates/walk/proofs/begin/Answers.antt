@@ -13,7 +13,6 @@ use Rattle.lightest.proofs.LetterCounts.{listed_fits}
 use Rattle.walk.specs.Steps.Successors.{Ascend}
 use Rattle.walk.specs.Steps.Positions.{Lettered}
 use Rattle.walk.proofs.Begun.{brief_lettered, letters_taken, letters_ascend, letters_few, walk_starts}
-use borrow.Author.Rules.{rules}
 use Rattle.walk.proofs.begin.Goals as goal
 use Rattle.walk.proofs.begin.Goals.{After-letters_of-known}
 

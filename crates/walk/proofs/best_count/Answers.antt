@@ -3,7 +3,6 @@ use native.Mathlib.Omega.{arith}
 use lib.ListN.{get_or}
 use Rattle.lines.proofs.Tallies.{addition_count_le}
 use Rattle.walk.proofs.Told.{kept_small, count_kept, count_none}
-use borrow.Author.Rules.{rules}
 use Rattle.walk.proofs.best_count.Goals as goal
 
 pub overflow_add-result : goal.overflow_add-result

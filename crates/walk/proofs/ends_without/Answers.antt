@@ -2,7 +2,6 @@
 use mathlib.Core.Path.{sym, ap}
 use mathlib.Core.Bool.{Bool, not, ◌&&◌}
 use borrow.Author.Tests.{eq-eqb, ne_eqb}
-use borrow.Author.Rules.{rules}
 use Rattle.walk.proofs.ends_without.Goals as goal
 
 pub returns-then-row-ne0 : goal.returns-then-row-ne0

@@ -17,7 +17,6 @@ use Rattle.walk.specs.Steps.Bound.{bound_of}
 use Rattle.walk.specs.Steps.Positions.{letters_of}
 use Rattle.walk.proofs.Begun.{letters_taken, letters_words}
 use Rattle.walk.proofs.Told.{best_holds, ends_told, numbers_told}
-use borrow.Author.Rules.{rules}
 use Rattle.walk.proofs.tell.Goals as goal
 use Rattle.walk.proofs.tell.Goals.{After-letters_of-known}
 

@@ -2,7 +2,6 @@
 use mathlib.Core.Path.{sym}
 use Prim.Native.Nat.{zero-le}
 use lib.ListN.{get_or-eq_default}
-use borrow.Author.Rules.{rules}
 use Rattle.answer_matrix.proofs.gate_list.input_at.Goals as goal
 
 pub returns-then-k-inputs : goal.returns-then-k-inputs

@@ -4,7 +4,6 @@ use Rattle.gates.specs.Gates.{carrier_of}
 use Rattle.text.proofs.Form.{six_none, six_more}
 use Rattle.text.proofs.Lengths.{length_line}
 use Rattle.reply.specs.Due.{carrier_line}
-use borrow.Author.Rules.{rules}
 use Rattle.answer_matrix.proofs.gate_list.put_carrier.Goals as goal
 
 pub put_line-requires : goal.put_line-requires

@@ -150,21 +150,20 @@ put_outputs-behind-requires c =
     (modulus (goal.at.put_outputs-behind-requires c).After-degree, order (goal.at.put_outputs-behind-requires c).After-degree, inside (goal.at.put_outputs-behind-requires c).After-degree, omega (arith, (behind (goal.at.put_outputs-behind-requires c).After-put_line-first).0, (behind (goal.at.put_outputs-behind-requires c).After-put_line-first).1, gates_length (goal.at.put_outputs-behind-requires c).After-degree))
 
 pub put_outputs-end-requires : goal.put_outputs-end-requires
-put_outputs-end-requires c =
-    (
-      modulus (goal.at.put_outputs-end-requires c).After-degree,
-      order (goal.at.put_outputs-end-requires c).After-degree,
-      inside (goal.at.put_outputs-end-requires c).After-degree,
-      omega (
-        arith,
-        (behind (goal.at.put_outputs-end-requires c).After-put_line-first).0,
-        (behind (goal.at.put_outputs-end-requires c).After-put_line-first).1,
-        c.put_outputs-behind.ensures.place,
-        put_long (output_texts false (first (goal.at.put_outputs-end-requires c).After-degree) (outs (goal.at.put_outputs-end-requires c).After-degree)) c.put_outputs-behind.ensures,
-        gates_length (goal.at.put_outputs-end-requires c).After-degree,
-        carriers_length (goal.at.put_outputs-end-requires c).After-degree,
-      ),
-    )
+put_outputs-end-requires c = (
+  modulus (goal.at.put_outputs-end-requires c).After-degree,
+  order (goal.at.put_outputs-end-requires c).After-degree,
+  inside (goal.at.put_outputs-end-requires c).After-degree,
+  omega (
+    arith,
+    (behind (goal.at.put_outputs-end-requires c).After-put_line-first).0,
+    (behind (goal.at.put_outputs-end-requires c).After-put_line-first).1,
+    c.put_outputs-behind.ensures.place,
+    put_long (output_texts false (first (goal.at.put_outputs-end-requires c).After-degree) (outs (goal.at.put_outputs-end-requires c).After-degree)) c.put_outputs-behind.ensures,
+    gates_length (goal.at.put_outputs-end-requires c).After-degree,
+    carriers_length (goal.at.put_outputs-end-requires c).After-degree,
+  ),
+)
 
 pub returns : goal.returns
 returns c =

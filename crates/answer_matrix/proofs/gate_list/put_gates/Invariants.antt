@@ -3,15 +3,10 @@
 use mathlib.Core.Path.{◌≡◌}
 use mathlib.Core.Bool.{false}
 use Prim.Native.Nat.{◌+◌, ◌-◌, ◌≤◌}
-use native.Mathlib.Nat.{le_trans}
-use native.Mathlib.Omega.{arith}
-use lib.Dec.{lit≤}
 use lib.ListN.{length, drop}
-use Rattle.text.proofs.Form.{six_none, six_more}
 use Rattle.text.proofs.Places.{Rest}
 use Rattle.answer_matrix.specs.Steps.Outputs.{output_text}
-use Rattle.answer_matrix.proofs.GateLines.{joining_text, gates_start, gates_room, gates_step, gates_end}
-use borrow.Author.Rules.{rules}
+use Rattle.answer_matrix.proofs.GateLines.{joining_text}
 use Rattle.answer_matrix.proofs.gate_list.put_gates.Given as goal
 
 abbrev pub invariant-loop-k : goal.invariant-loop-k

@@ -1,5 +1,4 @@
 -- `answer_matrix::gate_list::put_output` meets its contract. Assumes nothing.
-use borrow.Author.Rules.{rules}
 use Rattle.answer_matrix.proofs.gate_list.put_output.Goals as goal
 
 pub put_carrier-requires : goal.put_carrier-requires

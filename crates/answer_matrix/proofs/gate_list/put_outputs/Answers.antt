@@ -2,10 +2,10 @@
 -- Assumes nothing.
 use mathlib.Core.Path.{◌≡◌, sym, ap, ◌∙◌}
 use mathlib.Core.List.{List, []}
-use Prim.Native.Nat.{ℕ, ◌+◌, ◌-◌, ◌*◌, ◌/◌, ◌%◌, ◌≤◌, ◌<◌, zero-le}
+use Prim.Native.Nat.{ℕ, ◌-◌, ◌*◌, ◌/◌, ◌%◌, ◌≤◌, ◌<◌, zero-le}
 use native.Mathlib.Nat.{mul-le-mul}
 use native.Mathlib.Omega.{arith}
-use lib.ListN.{length, get_or, take, drop}
+use lib.ListN.{length, get_or, take}
 use lib.Seq.{length-take-le}
 use Rattle.field.specs.Polynomial.{degree}
 use Rattle.field.proofs.Degrees.{polynomial}
@@ -13,10 +13,8 @@ use Rattle.lines.specs.Numbers.{entry}
 use Rattle.gates.specs.Gates.{outputs}
 use Rattle.gates.proofs.InputArrays.{inputs_few, inputs_take, inputs_count_is, inputs_fit}
 use Rattle.gates.proofs.Joined.{length_outputs, output_at}
-use Rattle.text.proofs.Places.{Rest, rest_start}
-use Rattle.answer_matrix.specs.Steps.Outputs.{output_texts}
+use Rattle.text.proofs.Places.{rest_start}
 use Rattle.answer_matrix.proofs.GateLines.{outputs_room, outputs_step, outputs_finish}
-use borrow.Author.Rules.{rules}
 use Rattle.answer_matrix.proofs.gate_list.put_outputs.Goals as goal
 use Rattle.answer_matrix.proofs.gate_list.put_outputs.Goals.{After-put_output-arg-1, After-degree, After-inputs_at-found, In-loop-o, Start}
 
@@ -79,12 +77,11 @@ pub slice_bounds-put_output-end : goal.slice_bounds-put_output-end
 slice_bounds-put_output-end c = sym (length-take-le _ _ (slice_bounds-list-end (goal.at.slice_bounds-put_output-end c).After-put_output-arg-1))
 
 pub put_output-place-requires : goal.put_output-place-requires
-put_output-place-requires c =
-    (
-      rw (given (goal.at.put_output-place-requires c).After-inputs_at-found) (omega (arith, counted (goal.at.put_output-place-requires c).After-inputs_at-found, most (goal.at.put_output-place-requires c).After-inputs_at-found)),
-      omega (arith, c.loop-o.invariant.1, c.loop-o-test.true, few (goal.at.put_output-place-requires c).After-degree),
-      rw (given (goal.at.put_output-place-requires c).After-inputs_at-found) (outputs_room c.args.carriers c.loop-o.next (outs (goal.at.put_output-place-requires c).Start) c.loop-o.o c.loop-o.invariant.2 (place (goal.at.put_output-place-requires c).In-loop-o) c.requires.3),
-    )
+put_output-place-requires c = (
+  rw (given (goal.at.put_output-place-requires c).After-inputs_at-found) (omega (arith, counted (goal.at.put_output-place-requires c).After-inputs_at-found, most (goal.at.put_output-place-requires c).After-inputs_at-found)),
+  omega (arith, c.loop-o.invariant.1, c.loop-o-test.true, few (goal.at.put_output-place-requires c).After-degree),
+  rw (given (goal.at.put_output-place-requires c).After-inputs_at-found) (outputs_room c.args.carriers c.loop-o.next (outs (goal.at.put_output-place-requires c).Start) c.loop-o.o c.loop-o.invariant.2 (place (goal.at.put_output-place-requires c).In-loop-o) c.requires.3),
+)
 
 pub overflow_cast-next-in-loop-o : goal.overflow_cast-next-in-loop-o
 overflow_cast-next-in-loop-o c = record { fits = omega (arith, c.gate_count.ensures, most (goal.at.overflow_cast-next-in-loop-o c).After-inputs_at-found) }
@@ -98,14 +95,13 @@ overflow_add-o c =
     record { fits = omega (arith, c.loop-o-test.true, few (goal.at.overflow_add-o c).After-degree) }
 
 pub loop-o-preserved : goal.loop-o-preserved
-loop-o-preserved c =
-    (
-      omega (arith, c.loop-o-test.true),
-      omega (arith, c.gate_count.ensures, most (goal.at.loop-o-preserved c).After-inputs_at-found, c.loop-o.invariant.1),
-      outputs_step c.args.carriers c.loop-o.next (outs (goal.at.loop-o-preserved c).Start) c.loop-o.o c.loop-o.invariant.2 (place (goal.at.loop-o-preserved c).In-loop-o) (given (goal.at.loop-o-preserved c).After-inputs_at-found)
-          (c.gate_count.ensures ∙ ap (λ (k : ℕ). k - 1) (counted (goal.at.loop-o-preserved c).After-inputs_at-found))
-          c.put_output-place.ensures,
-    )
+loop-o-preserved c = (
+  omega (arith, c.loop-o-test.true),
+  omega (arith, c.gate_count.ensures, most (goal.at.loop-o-preserved c).After-inputs_at-found, c.loop-o.invariant.1),
+  outputs_step c.args.carriers c.loop-o.next (outs (goal.at.loop-o-preserved c).Start) c.loop-o.o c.loop-o.invariant.2 (place (goal.at.loop-o-preserved c).In-loop-o) (given (goal.at.loop-o-preserved c).After-inputs_at-found)
+      (c.gate_count.ensures ∙ ap (λ (k : ℕ). k - 1) (counted (goal.at.loop-o-preserved c).After-inputs_at-found))
+      c.put_output-place.ensures,
+)
 
 pub shape_of-space : goal.shape_of-space
 shape_of-space c = c.loop-o.invariant.2.long

@@ -3,7 +3,6 @@ use mathlib.Core.Path.{sym}
 use native.Mathlib.Nat.{mod-eq_of_lt}
 use native.Mathlib.Omega.{arith}
 use Rattle.rows.proofs.Around.{mod_once, mod_twice}
-use borrow.Author.Rules.{rules}
 use Rattle.cuts.proofs.circulant.around.Goals as goal
 
 pub returns-then-sum-n : goal.returns-then-sum-n

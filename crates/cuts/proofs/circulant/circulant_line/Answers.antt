@@ -1,13 +1,11 @@
 -- `cuts::circulant::circulant_line` meets its contract: after j turns the first j entries are stored. Assumes nothing.
 use mathlib.Core.Path.{◌≡◌, refl, ap}
-use Prim.Native.Nat.{ℕ, ◌+◌, ◌-◌, ◌%◌, ◌≤◌, ◌<◌, zero-le}
+use Prim.Native.Nat.{ℕ, ◌<◌, zero-le}
 use native.Mathlib.Nat.{mod-lt}
 use native.Mathlib.Omega.{arith}
 use lib.ListN.{get_or}
 use Rattle.algebra.specs.Matrix.{tabulate}
-use Rattle.lines.specs.Steps.Blocks.{filled}
 use Rattle.lines.proofs.Filled.{filled_more}
-use borrow.Author.Rules.{rules}
 use Rattle.cuts.proofs.circulant.circulant_line.Goals as goal
 
 pub loop-j-init : goal.loop-j-init

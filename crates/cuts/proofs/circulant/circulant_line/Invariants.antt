@@ -1,13 +1,8 @@
 -- `cuts::circulant::circulant_line` meets its contract: after j turns the first j entries are stored. Assumes nothing.
-use mathlib.Core.Path.{◌≡◌, refl, ap}
-use Prim.Native.Nat.{ℕ, ◌+◌, ◌-◌, ◌%◌, ◌≤◌, ◌<◌, zero-le}
-use native.Mathlib.Nat.{mod-lt}
-use native.Mathlib.Omega.{arith}
+use mathlib.Core.Path.{◌≡◌}
+use Prim.Native.Nat.{◌+◌, ◌-◌, ◌%◌, ◌≤◌}
 use lib.ListN.{get_or}
-use Rattle.algebra.specs.Matrix.{tabulate}
 use Rattle.lines.specs.Steps.Blocks.{filled}
-use Rattle.lines.proofs.Filled.{filled_more}
-use borrow.Author.Rules.{rules}
 use Rattle.cuts.proofs.circulant.circulant_line.Given as goal
 
 abbrev pub invariant-loop-j : goal.invariant-loop-j

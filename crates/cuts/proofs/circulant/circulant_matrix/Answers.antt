@@ -1,13 +1,11 @@
 -- `cuts::circulant::circulant_matrix` meets its contract: after i turns the first i lines are stored. Assumes nothing.
 use mathlib.Core.Path.{◌≡◌, refl}
-use mathlib.Core.List.{List}
-use Prim.Native.Nat.{ℕ, ◌+◌, ◌-◌, ◌%◌, ◌≤◌, zero-le}
+use Prim.Native.Nat.{◌≤◌, zero-le}
 use native.Mathlib.Omega.{arith}
-use lib.ListN.{get_or, replicate}
+use lib.ListN.{replicate}
 use Rattle.algebra.specs.Matrix.{tabulate}
-use Rattle.lines.specs.Steps.Blocks.{filled, framed}
+use Rattle.lines.specs.Steps.Blocks.{framed}
 use Rattle.lines.proofs.Filled.{filled_more}
-use borrow.Author.Rules.{rules}
 use Rattle.cuts.proofs.circulant.circulant_matrix.Goals as goal
 
 pub loop-i-init : goal.loop-i-init

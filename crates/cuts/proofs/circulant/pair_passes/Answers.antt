@@ -9,7 +9,6 @@ use Rattle.field.specs.Polynomial.{product}
 use Rattle.lines.specs.Numbers.{WordsInField}
 use Rattle.rows.specs.Steps.Around.{fourth_around}
 use Rattle.cuts.proofs.CirculantCuts.{pair_later, pair_decides}
-use borrow.Author.Rules.{rules}
 use Rattle.cuts.proofs.circulant.pair_passes.Goals as goal
 
 pub around-z-requires : goal.around-z-requires

@@ -1,10 +1,9 @@
 -- `cuts::circulant::pairs_pass` meets its contract: the pairs with the places below x pass. Assumes nothing.
-use mathlib.Core.Path.{◌≡◌, sym, ap}
-use mathlib.Core.Bool.{Bool, true, not}
-use Prim.Native.Nat.{ℕ, suc, ◌-◌, ◌≤◌, ◌<◌}
+use mathlib.Core.Path.{sym, ap}
+use mathlib.Core.Bool.{Bool, not}
+use Prim.Native.Nat.{ℕ, suc}
 use native.Mathlib.Nat.{not-suc-le-zero}
 use native.Mathlib.Omega.{arith}
-use borrow.Author.Rules.{rules}
 use Rattle.field.specs.Steps.{every_below}
 use Rattle.matrix.proofs.Squares.{each_every, every_stops, every_goes}
 use Rattle.cuts.specs.Steps.Circulant.{pair_passes, pairs_pass}

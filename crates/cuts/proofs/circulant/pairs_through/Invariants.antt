@@ -1,11 +1,7 @@
 -- `cuts::circulant::pairs_through` meets its contract: the pairs with the places below y pass. Assumes nothing.
-use mathlib.Core.Path.{◌≡◌, sym}
-use mathlib.Core.Bool.{Bool, true}
+use mathlib.Core.Path.{◌≡◌}
+use mathlib.Core.Bool.{true}
 use Prim.Native.Nat.{ℕ, ◌-◌, ◌≤◌, ◌<◌}
-use native.Mathlib.Nat.{not-suc-le-zero}
-use native.Mathlib.Omega.{arith}
-use borrow.Author.Rules.{rules}
-use Rattle.matrix.proofs.Squares.{each_every, every_stops, every_goes}
 use Rattle.cuts.specs.Steps.Circulant.{pair_passes}
 use Rattle.cuts.proofs.circulant.pairs_through.Given as goal
 

@@ -2,7 +2,6 @@
 use mathlib.Core.Path.{ap}
 use Rattle.field.specs.Polynomial.{◌⊕◌}
 use Rattle.cuts.specs.Steps.Hadamard.{last_letter}
-use borrow.Author.Rules.{rules}
 use Rattle.cuts.proofs.hadamard.last_letter.Goals as goal
 
 pub returns : goal.returns

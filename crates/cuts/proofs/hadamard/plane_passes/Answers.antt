@@ -4,7 +4,6 @@ use native.Mathlib.Omega.{arith}
 use Rattle.field.specs.Polynomial.{◌⊕◌}
 use Rattle.lines.specs.Numbers.{WordsInField}
 use Rattle.cuts.proofs.PlaneCuts.{SingularPlane, plane_later, plane_singular, plane_small, plane_sums}
-use borrow.Author.Rules.{rules}
 use Rattle.cuts.proofs.hadamard.plane_passes.Goals as goal
 use Rattle.cuts.proofs.hadamard.plane_passes.Goals.{Else-times, Start}
 

@@ -1,10 +1,9 @@
 -- `cuts::hadamard::planes_pass` meets its contract: the planes through indices below b pass. Assumes nothing.
-use mathlib.Core.Path.{◌≡◌, sym, ap}
-use mathlib.Core.Bool.{Bool, true, not}
-use Prim.Native.Nat.{ℕ, ◌-◌, ◌≤◌, ◌<◌}
+use mathlib.Core.Path.{sym, ap}
+use mathlib.Core.Bool.{Bool, not}
+use Prim.Native.Nat.{ℕ}
 use native.Mathlib.Nat.{not-suc-le-zero}
 use native.Mathlib.Omega.{arith}
-use borrow.Author.Rules.{rules}
 use Rattle.field.specs.Steps.{every_below}
 use Rattle.matrix.proofs.Squares.{each_every, every_stops, every_goes}
 use Rattle.cuts.specs.Steps.Hadamard.{plane_passes, planes_pass}

@@ -1,13 +1,9 @@
 -- `cuts::hadamard::planes_pass` meets its contract: the planes through indices below b pass. Assumes nothing.
-use mathlib.Core.Path.{◌≡◌, sym}
-use mathlib.Core.Bool.{Bool, true}
+use mathlib.Core.Path.{◌≡◌}
+use mathlib.Core.Bool.{true}
 use Prim.Native.Nat.{ℕ, ◌-◌, ◌≤◌, ◌<◌}
-use native.Mathlib.Nat.{not-suc-le-zero}
-use native.Mathlib.Omega.{arith}
-use borrow.Author.Rules.{rules}
 use Rattle.field.specs.Steps.{every_below}
-use Rattle.matrix.proofs.Squares.{each_every, every_stops, every_goes}
-use Rattle.cuts.specs.Steps.Hadamard.{plane_passes, planes_pass}
+use Rattle.cuts.specs.Steps.Hadamard.{plane_passes}
 use Rattle.cuts.proofs.hadamard.planes_pass.Given as goal
 
 abbrev pub invariant-loop-b : goal.invariant-loop-b

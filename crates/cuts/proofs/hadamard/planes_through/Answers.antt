@@ -1,10 +1,9 @@
 -- `cuts::hadamard::planes_through` meets its contract: the planes of the indices below a pass. Assumes nothing.
-use mathlib.Core.Path.{◌≡◌, sym, ap}
-use mathlib.Core.Bool.{Bool, true, not}
-use Prim.Native.Nat.{ℕ, ◌-◌, ◌≤◌, ◌<◌}
+use mathlib.Core.Path.{sym, ap}
+use mathlib.Core.Bool.{Bool, not}
+use Prim.Native.Nat.{ℕ}
 use native.Mathlib.Nat.{not-suc-le-zero}
 use native.Mathlib.Omega.{arith}
-use borrow.Author.Rules.{rules}
 use Rattle.matrix.proofs.Squares.{each_every, every_stops, every_goes}
 use Rattle.cuts.specs.Steps.Hadamard.{plane_passes}
 use Rattle.cuts.proofs.hadamard.planes_through.Goals as goal

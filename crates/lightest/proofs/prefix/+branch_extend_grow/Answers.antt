@@ -1,23 +1,20 @@
 -- `lightest::prefix::branch`, `grow` and `extend` meet their contracts. Assumes nothing.
 use mathlib.Core.Path.{◌≡◌, sym, ap, ◌∙◌}
-use mathlib.Core.Bool.{true, not}
-use Prim.Native.Nat.{ℕ, ◌+◌, ◌-◌, ◌≤◌, ◌<◌, zero-le}
+use mathlib.Core.Bool.{true}
+use Prim.Native.Nat.{◌+◌, ◌-◌, ◌<◌, zero-le}
 use native.Mathlib.Nat.{lt_of_le_of_lt}
 use native.Mathlib.Omega.{arith}
 use lib.Dec.{lit<}
 use lib.ListN.{length, take}
 use borrow.Author.Rules.{rules}
 use borrow.Author.Tests.{eqb-true}
-use Rattle.rows.specs.Lightest.{keep_all}
-use Rattle.rows.specs.Steps.Walk.{completions, branches}
-use Rattle.rows.specs.Keys.{key_of}
-use Rattle.cuts.specs.Steps.Cuts.{may_stand, tried}
+use Rattle.cuts.specs.Steps.Cuts.{may_stand}
 use Rattle.cuts.specs.Steps.Families.{cuts_of}
 use Rattle.cuts.proofs.Pruning.{OnlyLast, stand_not_next, stand_not_blocks, stand_both}
 use Rattle.cuts.proofs.Families.{family_back, family_forced, forced_last, family_free}
-use Rattle.lightest.specs.Steps.Prefix.{kept, best_as}
-use Rattle.lightest.proofs.Prefixes.{level_inside, level_fits, count_small, bound_small, letter_small, branch_left, branch_heavy, branch_heavier}
-use Rattle.lightest.proofs.Prefixes.{prefix_next, in_field_next, in_field_suc, counts_next, counts_whole, at_next, whole_next, branch_whole}
+use Rattle.lightest.specs.Steps.Prefix.{kept}
+use Rattle.lightest.proofs.Prefixes.{level_fits, count_small, bound_small, letter_small, branch_left, branch_heavy, branch_heavier}
+use Rattle.lightest.proofs.Prefixes.{in_field_next, in_field_suc, counts_next, counts_whole, at_next, whole_next, branch_whole}
 use Rattle.lightest.proofs.Prefixes.{upto_none, upto_letter, upto_at, upto_more, upto_all, last_left, last_taken, last_row}
 use Rattle.lightest.proofs.prefix.+branch_extend_grow.Invariants.{thrice}
 use Rattle.lightest.proofs.prefix.+branch_extend_grow.Goals as goal
@@ -81,8 +78,8 @@ grow-returns-then-not-blocks_pass t c =
 pub grow-finish-requires : goal.grow-finish-requires
 grow-finish-requires t c =
     let may : may_stand (cuts_of c.args.family c.args.p c.args.n) (take c.args.level c.args.prefix) c.args.a ≡ true =
-        stand_both _ (family_back c.args.family c.args.p c.args.n) _ _ (level_fits c.requires.0) _ c.requires.2
-        (sym c.blocks_pass.ensures ∙ c.if-not-blocks_pass.false) in (
+    stand_both _ (family_back c.args.family c.args.p c.args.n) _ _ (level_fits c.requires.0) _ c.requires.2
+    (sym c.blocks_pass.ensures ∙ c.if-not-blocks_pass.false) in (
       whole_next c.requires.0 c.requires.1 may c.if-next-n.true,
       counts_whole c.requires.0 c.requires.1 may c.if-next-n.true,
       c.requires.4,
@@ -98,15 +95,15 @@ grow-extend-requires t c =
     let same : thrice (n - level) ≡ t = c.decreases in
     let less : thrice (n - (level + 1)) + 2 < t = omega arith in
     let may : may_stand (cuts_of c.args.family c.args.p c.args.n) (take c.args.level c.args.prefix) c.args.a ≡ true =
-        stand_both _ (family_back c.args.family c.args.p c.args.n) _ _ (level_fits c.requires.0) _ c.requires.2
-        (sym c.blocks_pass.ensures ∙ c.if-not-blocks_pass.false) in
+    stand_both _ (family_back c.args.family c.args.p c.args.n) _ _ (level_fits c.requires.0) _ c.requires.2
+    (sym c.blocks_pass.ensures ∙ c.if-not-blocks_pass.false) in
     (less, (at_next c.requires.0 c.requires.1 may c.if-next-n.false, c.requires.3, c.requires.4))
 
 pub grow-returns-then-next-n : goal.grow-returns-then-next-n
 grow-returns-then-next-n t c =
     let may : may_stand (cuts_of c.args.family c.args.p c.args.n) (take c.args.level c.args.prefix) c.args.a ≡ true =
-        stand_both _ (family_back c.args.family c.args.p c.args.n) _ _ (level_fits c.requires.0) _ c.requires.2
-        (sym c.blocks_pass.ensures ∙ c.if-not-blocks_pass.false) in
+    stand_both _ (family_back c.args.family c.args.p c.args.n) _ _ (level_fits c.requires.0) _ c.requires.2
+    (sym c.blocks_pass.ensures ∙ c.if-not-blocks_pass.false) in
     c.finish.ensures
     ∙ ap (kept c.args.p c.args.n)
     (branch_whole c.requires.0 c.requires.1 may c.if-next-n.true (sym c.is_heavy.ensures ∙ c.if-is_heavy.false))

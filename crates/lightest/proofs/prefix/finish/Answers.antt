@@ -6,7 +6,6 @@ use Rattle.rows.specs.Lightest.{found}
 use Rattle.cuts.proofs.Families.{family_most}
 use Rattle.lightest.specs.Steps.Prefix.{kept, best_as}
 use Rattle.lightest.proofs.Prefixes.{kept_row}
-use borrow.Author.Rules.{rules}
 use Rattle.lightest.proofs.prefix.finish.Goals as goal
 
 pub is_good-requires : goal.is_good-requires

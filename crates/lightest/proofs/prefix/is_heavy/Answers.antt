@@ -1,5 +1,4 @@
 -- `lightest::prefix::is_heavy` meets its contract. Assumes nothing.
-use mathlib.Core.Bool.{not}
 use mathlib.Core.Path.{sym, ap, ◌∙◌}
 use lib.Dec.{leb}
 use borrow.Author.Tests.{not-true, not-false}

@@ -5,7 +5,6 @@ use native.Mathlib.Nat.{mul-le-mul}
 use native.Mathlib.Omega.{arith}
 use lib.Dec.{eqb}
 use lib.ListN.{get_or}
-use borrow.Author.Rules.{rules}
 use Rattle.algebra.specs.Matrix.{tabulate, weight}
 use Rattle.algebra.proofs.Weights.{one_unless_le}
 use Rattle.field.proofs.Degrees.{polynomial}

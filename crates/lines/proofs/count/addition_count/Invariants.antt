@@ -1,17 +1,9 @@
 -- `lines::count::addition_count` meets its contract: after j turns the weight of the first j entries is counted. Assumes nothing.
-use mathlib.Core.Path.{◌≡◌, refl, sym, ap, ap₂, ◌∙◌}
-use Prim.Native.Nat.{ℕ, ◌+◌, ◌-◌, ◌*◌, ◌≤◌}
-use native.Mathlib.Nat.{mul-le-mul}
-use native.Mathlib.Omega.{arith}
-use lib.Dec.{eqb}
+use mathlib.Core.Path.{◌≡◌}
+use Prim.Native.Nat.{◌-◌, ◌≤◌}
 use lib.ListN.{get_or}
-use borrow.Author.Rules.{rules}
 use Rattle.algebra.specs.Matrix.{tabulate, weight}
-use Rattle.algebra.proofs.Weights.{one_unless_le}
-use Rattle.field.proofs.Degrees.{polynomial}
 use Rattle.lines.specs.Numbers.{numbers}
-use Rattle.lines.specs.Counts.{addition_count}
-use Rattle.lines.proofs.Tallies.{weight_most, weight_step}
 use Rattle.lines.proofs.count.addition_count.Given as goal
 
 abbrev pub invariant-loop-j : goal.invariant-loop-j

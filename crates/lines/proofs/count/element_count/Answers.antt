@@ -1,9 +1,8 @@
 -- `lines::count::element_count` meets its contract: after j turns the counts of the first j elements are added. Assumes nothing.
 use mathlib.Core.Path.{◌≡◌, refl, sym, ap, ap₂, ◌∙◌}
-use Prim.Native.Nat.{ℕ, ◌+◌, ◌-◌, ◌*◌, ◌≤◌}
+use Prim.Native.Nat.{ℕ, ◌+◌, ◌≤◌}
 use native.Mathlib.Omega.{arith}
 use lib.ListN.{get_or}
-use borrow.Author.Rules.{rules}
 use Rattle.lines.specs.Numbers.{WordsInField}
 use Rattle.lines.specs.Counts.{element_count, total}
 use Rattle.lines.proofs.Tallies.{xor_count_le, element_count_step}

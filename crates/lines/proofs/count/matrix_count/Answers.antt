@@ -1,8 +1,7 @@
 -- `lines::count::matrix_count` meets its contract: after i turns the counts of the first i rows are added. Assumes nothing.
 use mathlib.Core.Path.{◌≡◌, refl, sym, ap, ap₂, ◌∙◌}
-use Prim.Native.Nat.{ℕ, ◌+◌, ◌-◌, ◌*◌, ◌≤◌}
+use Prim.Native.Nat.{ℕ, ◌+◌, ◌≤◌}
 use native.Mathlib.Omega.{arith}
-use borrow.Author.Rules.{rules}
 use Rattle.lines.specs.Numbers.{entry, InField, WordsInField}
 use Rattle.lines.specs.Counts.{total, row_count}
 use Rattle.lines.proofs.Tallies.{row_count_le, total_step, total_rows}

@@ -3,7 +3,6 @@ use mathlib.Core.Path.{ap₂}
 use Prim.Native.Nat.{ℕ, ◌+◌}
 use native.Mathlib.Omega.{arith}
 use lib.ListN.{get_or}
-use borrow.Author.Rules.{rules}
 use Rattle.lines.specs.Counts.{row_count}
 use Rattle.lines.proofs.Tallies.{element_count_le, addition_count_le}
 use Rattle.lines.proofs.count.row_count.Goals as goal

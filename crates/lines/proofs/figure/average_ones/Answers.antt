@@ -5,7 +5,6 @@ use native.Mathlib.Nat.{div-le_self}
 use native.Mathlib.Omega.{arith}
 use Rattle.field.proofs.Degrees.{polynomial}
 use Rattle.lines.specs.Steps.Figures.{average_ones}
-use borrow.Author.Rules.{rules}
 use Rattle.lines.proofs.figure.average_ones.Goals as goal
 use Rattle.lines.proofs.figure.average_ones.Goals.{After-degree-m}
 

@@ -2,7 +2,6 @@
 use mathlib.Core.Path.{ap, ◌∙◌}
 use Rattle.lines.specs.Depths.{depth_of}
 use Rattle.lines.specs.Steps.Figures.{depth_of_ones}
-use borrow.Author.Rules.{rules}
 use Rattle.lines.proofs.figure.depth.Goals as goal
 
 pub returns : goal.returns

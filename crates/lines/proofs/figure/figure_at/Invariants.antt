@@ -1,15 +1,8 @@
 -- `lines::figure::figure_at` meets its contract: after b turns the ones for the first b output bits are copied. Assumes nothing.
-use mathlib.Core.Path.{◌≡◌, refl, ap₂, ◌∙◌}
-use mathlib.Core.List.{append-nil}
-use Prim.Native.Nat.{◌-◌, ◌≤◌, ◌<◌, zero-le}
-use native.Mathlib.Omega.{arith}
-use Rattle.algebra.specs.Matrix.{tabulate}
+use mathlib.Core.Path.{◌≡◌}
+use Prim.Native.Nat.{◌-◌, ◌≤◌}
 use Rattle.lines.specs.Depths.{ones_in_line}
 use Rattle.lines.specs.Steps.Blocks.{filled}
-use Rattle.lines.specs.Steps.Figures.{figure_of}
-use Rattle.lines.proofs.Filled.{filled_more}
-use Rattle.lines.proofs.Figures.{as_figure, table_ones}
-use borrow.Author.Rules.{rules}
 use Rattle.lines.proofs.figure.figure_at.Given as goal
 
 abbrev pub invariant-loop-b : goal.invariant-loop-b

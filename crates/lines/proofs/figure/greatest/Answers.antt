@@ -1,11 +1,10 @@
 -- `lines::figure::greatest` meets its contract: after b turns r is the greatest of the first b. Assumes nothing.
 use mathlib.Core.Path.{◌≡◌, refl, sym, ap, ◌∙◌}
-use Prim.Native.Nat.{ℕ, ◌-◌, ◌≤◌, max, zero-le}
+use Prim.Native.Nat.{ℕ, max, zero-le}
 use native.Mathlib.Numerals.{add-one}
 use native.Mathlib.Omega.{arith}
 use lib.ListN.{get_or}
 use Rattle.lines.specs.Depths.{greatest}
-use borrow.Author.Rules.{rules}
 use Rattle.lines.proofs.figure.greatest.Goals as goal
 
 pub loop-b-init : goal.loop-b-init

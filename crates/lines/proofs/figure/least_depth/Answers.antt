@@ -6,7 +6,6 @@ use Rattle.lines.specs.declared.figure.Figure.{Figure}
 use Rattle.lines.specs.Depths.{output_ones, depth_of, greatest}
 use Rattle.lines.specs.Steps.Figures.{least_depth}
 use Rattle.lines.proofs.Figures.{figure_greatest}
-use borrow.Author.Rules.{rules}
 use Rattle.lines.proofs.figure.least_depth.Goals as goal
 use Rattle.lines.proofs.figure.least_depth.Goals.{After-greatest}
 

@@ -1,15 +1,14 @@
 -- `lines::figure::line_figure` meets its contract: after j turns the figures of the first j entries are added up. Assumes nothing.
 use mathlib.Core.Path.{◌≡◌, ap₂, subst₂, sym, ◌∙◌}
-use Prim.Native.Nat.{◌-◌, ◌≤◌, ◌<◌, zero-le}
+use Prim.Native.Nat.{◌<◌, zero-le}
 use native.Mathlib.Nat.{lt_of_lt_of_le}
 use native.Mathlib.Omega.{arith}
 use lib.ListN.{get_or}
 use Rattle.field.proofs.Calls.{elements_most}
 use Rattle.lines.specs.Numbers.{WordsInField}
-use Rattle.lines.specs.Steps.Figures.{CountsOf, line_figure, figure_sum, Addable}
+use Rattle.lines.specs.Steps.Figures.{CountsOf, figure_sum, Addable}
 use Rattle.lines.proofs.Tallies.{xor_count_le}
 use Rattle.lines.proofs.Figures.{figure_none, figure_more, figure_addable}
-use borrow.Author.Rules.{rules}
 use Rattle.lines.proofs.figure.line_figure.Goals as goal
 
 pub loop-j-init : goal.loop-j-init

@@ -1,7 +1,7 @@
 -- `lines::figure::ones_in_line` meets its contract: after k turns the column is a times 2^k, and the ones of the columns before it are
 -- counted. Assumes nothing.
 use mathlib.Core.Path.{◌≡◌, refl, sym, ap, ap₂, subst⁻¹, ◌∙◌}
-use Prim.Native.Nat.{ℕ, ◌+◌, ◌-◌, ◌*◌, ◌/◌, ◌%◌, ◌^◌, ◌≤◌, ◌<◌, zero-le}
+use Prim.Native.Nat.{ℕ, ◌+◌, ◌*◌, ◌/◌, ◌%◌, ◌^◌, ◌≤◌, ◌<◌, zero-le}
 use native.Mathlib.Nat.{pow-suc}
 use native.Mathlib.Numerals.{add-one}
 use native.Mathlib.Omega.{arith}
@@ -13,7 +13,6 @@ use Rattle.lines.specs.Counts.{total}
 use Rattle.lines.specs.Depths.{bit, ones_in_line}
 use Rattle.lines.proofs.Tallies.{total_step, total_le}
 use Rattle.lines.proofs.Depths.{bit_le}
-use borrow.Author.Rules.{rules}
 use Rattle.lines.proofs.figure.ones_in_line.Goals as goal
 use Rattle.lines.proofs.figure.ones_in_line.Goals.{In-loop-k}
 

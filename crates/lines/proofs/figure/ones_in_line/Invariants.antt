@@ -1,19 +1,10 @@
 -- `lines::figure::ones_in_line` meets its contract: after k turns the column is a times 2^k, and the ones of the columns before it are
 -- counted. Assumes nothing.
-use mathlib.Core.Path.{◌≡◌, refl, sym, ap, ap₂, subst⁻¹, ◌∙◌}
-use Prim.Native.Nat.{ℕ, ◌+◌, ◌-◌, ◌*◌, ◌/◌, ◌%◌, ◌^◌, ◌≤◌, ◌<◌, zero-le}
-use native.Mathlib.Nat.{pow-suc}
-use native.Mathlib.Numerals.{add-one}
-use native.Mathlib.Omega.{arith}
-use lib.Bits.{bit_and, and_mask}
-use Rattle.field.specs.Polynomial.{degree, product, rem}
-use Rattle.field.proofs.Degrees.{HasDegree, polynomial}
-use Rattle.field.proofs.Field.{times_one_r, times_double, times_lt}
+use mathlib.Core.Path.{◌≡◌}
+use Prim.Native.Nat.{◌-◌, ◌^◌, ◌≤◌}
+use Rattle.field.specs.Polynomial.{product}
 use Rattle.lines.specs.Counts.{total}
-use Rattle.lines.specs.Depths.{bit, ones_in_line}
-use Rattle.lines.proofs.Tallies.{total_step, total_le}
-use Rattle.lines.proofs.Depths.{bit_le}
-use borrow.Author.Rules.{rules}
+use Rattle.lines.specs.Depths.{bit}
 use Rattle.lines.proofs.figure.ones_in_line.Given as goal
 
 abbrev pub invariant-loop-k : goal.invariant-loop-k

@@ -1,6 +1,6 @@
 -- `lines::figure::ones_table` meets its contract: after i turns the first i entries are stored. Assumes nothing.
 use mathlib.Core.Path.{◌≡◌, refl}
-use Prim.Native.Nat.{◌*◌, ◌-◌, ◌/◌, ◌%◌, ◌^◌, ◌≤◌, ◌<◌, zero-le}
+use Prim.Native.Nat.{◌*◌, ◌/◌, ◌^◌, ◌<◌, zero-le}
 use native.Mathlib.Nat.{lt_of_lt_of_le}
 use native.Mathlib.Omega.{arith}
 use lib.Dec.{lit≤}
@@ -8,11 +8,8 @@ use Rattle.algebra.specs.Matrix.{tabulate}
 use Rattle.field.specs.Polynomial.{degree}
 use Rattle.field.proofs.Degrees.{polynomial}
 use Rattle.field.proofs.Calls.{elements_most, shifted_width}
-use Rattle.lines.specs.Depths.{ones_in_line}
-use Rattle.lines.specs.Steps.Blocks.{filled_to}
 use Rattle.lines.specs.Steps.Figures.{ones_table}
 use Rattle.lines.proofs.Filled.{filled_to_more}
-use borrow.Author.Rules.{rules}
 use Rattle.lines.proofs.figure.ones_table.Goals as goal
 use Rattle.lines.proofs.figure.ones_table.Goals.{In-loop-i}
 

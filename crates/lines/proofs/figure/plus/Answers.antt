@@ -1,15 +1,12 @@
 -- `lines::figure::plus` meets its contract: after b turns the first b sums are stored. Assumes nothing.
 use mathlib.Core.Path.{◌≡◌, refl, ap, ◌∙◌}
 use mathlib.Core.List.{append-nil}
-use Prim.Native.Nat.{◌+◌, ◌-◌, ◌≤◌, zero-le}
+use Prim.Native.Nat.{zero-le}
 use native.Mathlib.Omega.{arith}
-use lib.ListN.{get_or}
 use Rattle.algebra.specs.Matrix.{tabulate}
-use Rattle.lines.specs.Steps.Blocks.{filled}
 use Rattle.lines.specs.Steps.Figures.{figure_sum}
 use Rattle.lines.proofs.Filled.{filled_more}
 use Rattle.lines.proofs.Figures.{as_figure}
-use borrow.Author.Rules.{rules}
 use Rattle.lines.proofs.figure.plus.Goals as goal
 
 pub loop-b-init : goal.loop-b-init

@@ -1,9 +1,8 @@
 -- `matrix::block::determinant` and `matrix::block::first_line_sum` meet their contracts. Assumes nothing.
 use mathlib.Core.Path.{◌≡◌, sym, ap, ◌∙◌}
-use Prim.Native.Nat.{ℕ, ◌+◌, ◌-◌, ◌^◌, ◌≤◌, ◌<◌, zero-le}
+use Prim.Native.Nat.{ℕ, ◌+◌, ◌-◌, ◌<◌, zero-le}
 use native.Mathlib.Omega.{arith}
 use Rattle.algebra.specs.Matrix.{without, det}
-use Rattle.field.specs.Polynomial.{degree}
 use Rattle.lines.specs.Numbers.{numbers, entry, InField}
 use Rattle.lines.proofs.Filled.{entry_of}
 use Rattle.matrix.proofs.Minors.{first_line, first_line_none, first_line_more, first_line_all, det_none, det_single, det_pair, minor_in_field}

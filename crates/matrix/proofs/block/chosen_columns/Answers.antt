@@ -1,14 +1,11 @@
 -- `matrix::block::chosen_columns` meets its contract: the lines before i are in place. Assumes nothing.
 use mathlib.Core.Path.{◌≡◌, refl}
-use mathlib.Core.List.{List}
-use Prim.Native.Nat.{ℕ, ◌-◌, ◌≤◌, zero-le}
+use Prim.Native.Nat.{zero-le}
 use native.Mathlib.Omega.{arith}
-use lib.ListN.{length, get_or, replicate}
-use Rattle.algebra.specs.Matrix.{tabulate, chosen}
-use Rattle.lines.specs.Numbers.{entry}
-use Rattle.lines.specs.Steps.Blocks.{filled, framed}
+use lib.ListN.{replicate}
+use Rattle.algebra.specs.Matrix.{tabulate}
+use Rattle.lines.specs.Steps.Blocks.{framed}
 use Rattle.lines.proofs.Filled.{filled_more}
-use borrow.Author.Rules.{rules}
 use Rattle.matrix.proofs.block.chosen_columns.Invariants.{line}
 use Rattle.matrix.proofs.block.chosen_columns.Goals as goal
 

@@ -1,14 +1,11 @@
 -- `matrix::block::chosen_columns` meets its contract: the lines before i are in place. Assumes nothing.
-use mathlib.Core.Path.{◌≡◌, refl}
+use mathlib.Core.Path.{◌≡◌}
 use mathlib.Core.List.{List}
-use Prim.Native.Nat.{ℕ, ◌-◌, ◌≤◌, zero-le}
-use native.Mathlib.Omega.{arith}
+use Prim.Native.Nat.{ℕ, ◌-◌, ◌≤◌}
 use lib.ListN.{length, get_or, replicate}
-use Rattle.algebra.specs.Matrix.{tabulate, chosen}
+use Rattle.algebra.specs.Matrix.{chosen}
 use Rattle.lines.specs.Numbers.{entry}
-use Rattle.lines.specs.Steps.Blocks.{filled, framed}
-use Rattle.lines.proofs.Filled.{filled_more}
-use borrow.Author.Rules.{rules}
+use Rattle.lines.specs.Steps.Blocks.{filled}
 use Rattle.matrix.proofs.block.chosen_columns.Given as goal
 
 -- the chosen columns of line i

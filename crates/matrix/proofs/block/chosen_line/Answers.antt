@@ -1,8 +1,7 @@
 -- `matrix::block::chosen_line` meets its contract: the chosen columns before place i are stored. Assumes nothing.
 use native.Mathlib.Nat.{pos_of_ne-zero}
 use native.Mathlib.Omega.{arith}
-use Rattle.matrix.proofs.Selections.{Walk, walk_begins, walk_inside, walk_goes_on, walk_ends, Inside}
-use borrow.Author.Rules.{rules}
+use Rattle.matrix.proofs.Selections.{walk_begins, walk_inside, walk_goes_on, walk_ends, Inside}
 use Rattle.matrix.proofs.block.chosen_line.Goals as goal
 use Rattle.matrix.proofs.block.chosen_line.Goals.{In-loop-rest}
 

@@ -1,8 +1,5 @@
 -- `matrix::block::chosen_line` meets its contract: the chosen columns before place i are stored. Assumes nothing.
-use native.Mathlib.Nat.{pos_of_ne-zero}
-use native.Mathlib.Omega.{arith}
-use Rattle.matrix.proofs.Selections.{Walk, walk_begins, walk_inside, walk_goes_on, walk_ends, Inside}
-use borrow.Author.Rules.{rules}
+use Rattle.matrix.proofs.Selections.{Walk}
 use Rattle.matrix.proofs.block.chosen_line.Given as goal
 
 abbrev pub invariant-loop-rest : goal.invariant-loop-rest

@@ -3,8 +3,7 @@ use mathlib.Core.List.{[]}
 use lib.ListN.{replicate}
 use native.Mathlib.Nat.{pos_of_ne-zero}
 use native.Mathlib.Omega.{arith}
-use Rattle.matrix.proofs.Selections.{Walk, walk_begins, walk_inside, walk_goes_on, walk_ends, Inside}
-use borrow.Author.Rules.{rules}
+use Rattle.matrix.proofs.Selections.{walk_begins, walk_inside, walk_goes_on, walk_ends, Inside}
 use Rattle.matrix.proofs.block.chosen_lines.Goals as goal
 use Rattle.matrix.proofs.block.chosen_lines.Goals.{In-loop-rest}
 

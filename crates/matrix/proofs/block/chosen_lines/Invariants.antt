@@ -1,10 +1,7 @@
 -- `matrix::block::chosen_lines` meets its contract: the chosen lines before place i are stored. Assumes nothing.
 use mathlib.Core.List.{[]}
 use lib.ListN.{replicate}
-use native.Mathlib.Nat.{pos_of_ne-zero}
-use native.Mathlib.Omega.{arith}
-use Rattle.matrix.proofs.Selections.{Walk, walk_begins, walk_inside, walk_goes_on, walk_ends, Inside}
-use borrow.Author.Rules.{rules}
+use Rattle.matrix.proofs.Selections.{Walk}
 use Rattle.matrix.proofs.block.chosen_lines.Given as goal
 
 abbrev pub invariant-loop-rest : goal.invariant-loop-rest

@@ -1,6 +1,5 @@
 -- `matrix::block::is_looked_at` meets its contract: the table, computed for all ways to look and all masks. Assumes nothing.
 use Rattle.matrix.proofs.Masks.{table_looked}
-use borrow.Author.Rules.{rules}
 use Rattle.matrix.proofs.block.is_looked_at.Goals as goal
 
 pub returns : goal.returns

@@ -3,7 +3,6 @@ use Prim.Native.Nat.{◌+◌, ◌-◌}
 use native.Mathlib.Omega.{arith}
 use lib.Bits.{and_le_l}
 use Rattle.matrix.proofs.Masks.{lowest, lowest_positive, following, following_next}
-use borrow.Author.Rules.{rules}
 use Rattle.matrix.proofs.block.next_choice.Goals as goal
 
 pub overflow_add-next : goal.overflow_add-next

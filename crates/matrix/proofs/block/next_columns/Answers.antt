@@ -1,10 +1,8 @@
 -- `matrix::block::next_columns` meets its contract: no mask between the given one and r is a choice. Assumes nothing.
 use mathlib.Core.Path.{sym, ◌∙◌}
-use Prim.Native.Nat.{◌-◌}
 use native.Mathlib.Nat.{not-le_of_lt}
 use native.Mathlib.Omega.{arith}
 use Rattle.matrix.proofs.Masks.{Skipped, choice_skips, skipped_any, skipped_more, skipped_next}
-use borrow.Author.Rules.{rules}
 use Rattle.matrix.proofs.block.next_columns.Goals as goal
 use Rattle.matrix.proofs.block.next_columns.Goals.{After-next_choice-r-in-loop-r}
 

@@ -1,17 +1,15 @@
 -- `matrix::block::regular_between` meets its contract: the blocks of the sizes above `above` up to k are regular. Assumes nothing.
 use mathlib.Core.Path.{◌≡◌, refl, sym, ap}
-use mathlib.Core.Bool.{Bool, true, not, ◌||◌}
+use mathlib.Core.Bool.{Bool, not}
 use mathlib.Core.List.{List}
-use Prim.Native.Nat.{ℕ, suc, ◌+◌, ◌-◌, ◌≤◌, ◌<◌}
+use Prim.Native.Nat.{ℕ, ◌+◌, ◌≤◌}
 use native.Mathlib.Nat.{le_refl, lt_of_lt_of_le}
 use native.Mathlib.Numerals.{add-one}
 use native.Mathlib.Omega.{arith}
-use lib.Dec.{ltb}
 use borrow.Author.Tests.{lt-ltb, le-ltb}
 use Rattle.lines.specs.Numbers.{numbers, entry}
 use Rattle.matrix.specs.Steps.Regular.{regular_of_size, regular_between}
 use Rattle.matrix.proofs.Squares.{each_every, every_stops, every_goes}
-use borrow.Author.Rules.{rules}
 use Rattle.matrix.proofs.block.regular_between.Invariants.{is_regular}
 use Rattle.matrix.proofs.block.regular_between.Goals as goal
 use Rattle.matrix.proofs.block.regular_between.Goals.{After-regular_of_size, At-loop-k}

@@ -1,17 +1,11 @@
 -- `matrix::block::regular_between` meets its contract: the blocks of the sizes above `above` up to k are regular. Assumes nothing.
-use mathlib.Core.Path.{◌≡◌, refl, sym}
+use mathlib.Core.Path.{◌≡◌}
 use mathlib.Core.Bool.{Bool, true, ◌||◌}
 use mathlib.Core.List.{List}
-use Prim.Native.Nat.{ℕ, suc, ◌+◌, ◌-◌, ◌≤◌, ◌<◌}
-use native.Mathlib.Nat.{le_refl, lt_of_lt_of_le}
-use native.Mathlib.Numerals.{add-one}
-use native.Mathlib.Omega.{arith}
+use Prim.Native.Nat.{ℕ, suc, ◌-◌, ◌≤◌, ◌<◌}
 use lib.Dec.{ltb}
-use borrow.Author.Tests.{lt-ltb, le-ltb}
 use Rattle.lines.specs.Numbers.{numbers, entry}
-use Rattle.matrix.specs.Steps.Regular.{regular_of_size, regular_between}
-use Rattle.matrix.proofs.Squares.{each_every, every_stops, every_goes}
-use borrow.Author.Rules.{rules}
+use Rattle.matrix.specs.Steps.Regular.{regular_of_size}
 use Rattle.matrix.proofs.block.regular_between.Given as goal
 
 -- the blocks of size k + 1 are regular, or the size is not above `above`

@@ -1,8 +1,6 @@
 -- `matrix::block::regular_of_size` meets its contract: every choice of columns before `columns`, and with `columns` every choice of lines
 -- before `lines`, gave a regular block. Assumes nothing.
 use mathlib.Core.Path.{◌≡◌, ap, ◌∙◌}
-use mathlib.Core.Bool.{Bool, false}
-use mathlib.Core.Logic.{⊎_elim}
 use Prim.Native.Nat.{ℕ, ◌-◌, ◌*◌, ◌%◌, ◌^◌, ◌≤◌, ◌<◌}
 use native.Mathlib.Nat.{lt_of_lt_of_le}
 use native.Mathlib.Omega.{arith}
@@ -10,9 +8,8 @@ use borrow.Author.Tests.{le-leb, lt-leb}
 use lib.Pow.{pow_mono, pow_pos}
 use Rattle.algebra.specs.Matrix.{det, chosen, block}
 use Rattle.lines.specs.Numbers.{numbers, entry}
-use Rattle.matrix.specs.Steps.Regular.{regular_of_size}
 use Rattle.matrix.proofs.Masks.{next_later}
-use Rattle.matrix.proofs.Regularity.{Passed, passed_none, passed_more, Both, both, Regular, other_lines, RegularColumns, other_columns, columns_passed}
+use Rattle.matrix.proofs.Regularity.{passed_none, passed_more, Both, both, other_lines, other_columns, columns_passed}
 use Rattle.matrix.proofs.Regularity.{all_passed, block_regular, one_singular, square_in_field, square_det}
 use Rattle.matrix.proofs.Selections.{shifted}
 use Rattle.matrix.proofs.block.regular_of_size.Goals as goal
@@ -167,7 +164,7 @@ returns c =
           let hc = below a.n size columns.columns w.choices-test.true in
           let two = both a.look a.n a.k lines columns.columns (most a.n size) hl hc (w.loop-lines.invariant.found hl) (columns.invariant.found hc) in
           let is = square_det a.look a.p a.n a.k lines columns.columns a.m w.chosen_columns-narrow.result w.chosen_lines.result size two
-              w.chosen_columns-narrow.ensures w.chosen_lines.ensures w.determinant.result w.determinant.ensures in
+          w.chosen_columns-narrow.ensures w.chosen_lines.ensures w.determinant.result w.determinant.ensures in
           lt-leb (1 * 2 ^ a.n % 65536) columns.columns w.choices-test.true
           ∙ one_singular a.p a.n a.k (entry a.m) a.look columns.columns lines w.determinant.result is two w.if-determinant-eq0.true
     ]

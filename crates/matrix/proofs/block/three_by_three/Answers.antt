@@ -6,7 +6,6 @@ use lib.Bits.{bit_xor}
 use Rattle.field.specs.Polynomial.{degree, product, ◌⊕◌}
 use Rattle.lines.specs.Numbers.{entry, InField}
 use Rattle.matrix.proofs.Minors.{det_three}
-use borrow.Author.Rules.{rules}
 use Rattle.matrix.proofs.block.three_by_three.Goals as goal
 use Rattle.matrix.proofs.block.three_by_three.Goals.{Start}
 

@@ -2,7 +2,6 @@
 use mathlib.Core.Path.{ap₂}
 use lib.Bits.{bit_xor}
 use Rattle.field.specs.Polynomial.{◌⊕◌}
-use borrow.Author.Rules.{rules}
 use Rattle.matrix.proofs.block.two_by_two.Goals as goal
 
 pub returns : goal.returns

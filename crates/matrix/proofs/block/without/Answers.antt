@@ -1,7 +1,6 @@
 -- `matrix::block::without` meets its contract: the lines before i are in place. Assumes nothing.
 use mathlib.Core.Path.{◌≡◌, refl, ap, ◌∙◌}
-use mathlib.Core.List.{List}
-use Prim.Native.Nat.{ℕ, ◌-◌, ◌<◌}
+use Prim.Native.Nat.{ℕ, ◌-◌}
 use native.Mathlib.Numerals.{add-one}
 use native.Mathlib.Omega.{arith}
 use lib.ListN.{replicate}
@@ -9,7 +8,6 @@ use Rattle.algebra.specs.Matrix.{tabulate, skip, without}
 use Rattle.lines.specs.Numbers.{entry}
 use Rattle.lines.specs.Steps.Blocks.{filled, framed}
 use Rattle.lines.proofs.Filled.{filled_more}
-use borrow.Author.Rules.{rules}
 use Rattle.matrix.proofs.block.without.Invariants.{line}
 use Rattle.matrix.proofs.block.without.Goals as goal
 

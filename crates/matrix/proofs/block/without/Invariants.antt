@@ -1,15 +1,11 @@
 -- `matrix::block::without` meets its contract: the lines before i are in place. Assumes nothing.
-use mathlib.Core.Path.{◌≡◌, refl, ap, ◌∙◌}
+use mathlib.Core.Path.{◌≡◌}
 use mathlib.Core.List.{List}
 use Prim.Native.Nat.{ℕ, ◌-◌, ◌<◌}
-use native.Mathlib.Numerals.{add-one}
-use native.Mathlib.Omega.{arith}
 use lib.ListN.{replicate}
-use Rattle.algebra.specs.Matrix.{tabulate, skip, without}
+use Rattle.algebra.specs.Matrix.{without}
 use Rattle.lines.specs.Numbers.{entry}
-use Rattle.lines.specs.Steps.Blocks.{filled, framed}
-use Rattle.lines.proofs.Filled.{filled_more}
-use borrow.Author.Rules.{rules}
+use Rattle.lines.specs.Steps.Blocks.{filled}
 use Rattle.matrix.proofs.block.without.Given as goal
 
 -- line i of the block that is left

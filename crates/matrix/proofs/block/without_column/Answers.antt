@@ -1,16 +1,12 @@
 -- `matrix::block::without_column` meets its contract: the columns before k are in place. Assumes nothing.
 use mathlib.Core.Path.{◌≡◌, refl, sym, ap, ◌∙◌}
-use mathlib.Core.List.{List}
-use mathlib.Core.Logic.{⊎_elim}
-use Prim.Native.Nat.{ℕ, ◌-◌, ◌≤◌}
+use Prim.Native.Nat.{ℕ}
 use native.Mathlib.Numerals.{add-one}
 use native.Mathlib.Omega.{arith}
 use lib.ListN.{get_or}
-use Rattle.algebra.specs.Matrix.{tabulate, skip}
-use Rattle.lines.specs.Steps.Blocks.{filled}
+use Rattle.algebra.specs.Matrix.{tabulate}
 use Rattle.lines.proofs.Filled.{filled_more}
 use Rattle.matrix.proofs.Minors.{skip_before, skip_behind}
-use borrow.Author.Rules.{rules}
 use Rattle.matrix.proofs.block.without_column.Invariants.{left}
 use Rattle.matrix.proofs.block.without_column.Goals as goal
 use Rattle.matrix.proofs.block.without_column.Goals.{then-k-j, else-k-j}

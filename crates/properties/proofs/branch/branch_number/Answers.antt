@@ -1,13 +1,12 @@
 -- `properties::branch::branch_number` meets its contract: the choices of columns before `columns` are tried. Assumes nothing.
 use mathlib.Core.Path.{◌≡◌, sym, ap, ◌∙◌}
-use Prim.Native.Nat.{ℕ, suc, ◌-◌, ◌^◌, ◌≤◌, ◌<◌}
+use Prim.Native.Nat.{ℕ, suc, ◌^◌, ◌≤◌, ◌<◌}
 use native.Mathlib.Nat.{le_trans}
 use native.Mathlib.Numerals.{add-one}
 use native.Mathlib.Omega.{arith}
 use lib.Count.{ones, ones-le}
 use lib.ListN.{length}
 use lib.Pow.{pow_pos}
-use borrow.Author.Rules.{rules}
 use Rattle.algebra.specs.Matrix.{chosen}
 use Rattle.lines.specs.Numbers.{numbers, elements, entry, InField}
 use Rattle.properties.specs.Steps.Pairs.{over_pairs}

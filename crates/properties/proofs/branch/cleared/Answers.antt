@@ -1,15 +1,12 @@
 -- `properties::branch::cleared` meets its contract: the lines before line i are those of the cleared block. Assumes nothing.
 use mathlib.Core.Path.{◌≡◌, refl}
-use mathlib.Core.List.{List}
-use Prim.Native.Nat.{ℕ, ◌+◌, ◌-◌, ◌≤◌, ◌<◌}
+use Prim.Native.Nat.{◌-◌, ◌<◌}
 use native.Mathlib.Omega.{arith}
 use lib.ListN.{replicate}
-use borrow.Author.Rules.{rules}
 use Rattle.algebra.specs.Matrix.{tabulate}
-use Rattle.algebra.specs.Steps.{cleared}
 use Rattle.algebra.proofs.Kernel.{skip_le}
-use Rattle.lines.specs.Numbers.{numbers, entry, InField, WordsInField}
-use Rattle.lines.specs.Steps.Blocks.{filled, framed}
+use Rattle.lines.specs.Numbers.{InField, WordsInField}
+use Rattle.lines.specs.Steps.Blocks.{framed}
 use Rattle.lines.proofs.Filled.{filled_more}
 use Rattle.properties.proofs.Elimination.{cleared_as}
 use Rattle.properties.proofs.branch.cleared.Invariants.{line_of}

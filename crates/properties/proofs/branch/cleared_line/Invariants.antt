@@ -1,18 +1,11 @@
 -- `properties::branch::cleared_line` meets its contract: the entries before place j are those of the cleared line. Assumes nothing.
-use mathlib.Core.Path.{◌≡◌, refl, ap, ap₂, ◌∙◌}
+use mathlib.Core.Path.{◌≡◌}
 use mathlib.Core.List.{List}
 use Prim.Native.Nat.{ℕ, ◌+◌, ◌-◌, ◌≤◌}
-use native.Mathlib.Numerals.{add-one}
-use native.Mathlib.Omega.{arith}
-use lib.Bits.{bit_xor}
 use lib.ListN.{get_or}
-use borrow.Author.Rules.{rules}
-use Rattle.algebra.specs.Matrix.{tabulate}
 use Rattle.algebra.specs.Steps.{cleared_line}
-use Rattle.field.specs.Polynomial.{◌⊕◌, product}
-use Rattle.lines.specs.Numbers.{numbers, WordsInField}
+use Rattle.lines.specs.Numbers.{numbers}
 use Rattle.lines.specs.Steps.Blocks.{filled}
-use Rattle.lines.proofs.Filled.{filled_more}
 use Rattle.properties.proofs.branch.cleared_line.Given as goal
 
 -- the entries of the cleared line

@@ -1,7 +1,6 @@
 -- `properties::branch::other_line` meets its contract. Assumes nothing.
 use mathlib.Core.Path.{sym, ◌∙◌}
 use native.Mathlib.Numerals.{add-one}
-use borrow.Author.Rules.{rules}
 use Rattle.matrix.proofs.Minors.{skip_before, skip_behind}
 use Rattle.properties.proofs.branch.other_line.Goals as goal
 

@@ -1,8 +1,7 @@
 -- `properties::branch::over_lines` meets its contract: the choices of lines before `lines` are tried. Assumes nothing.
 use mathlib.Core.Path.{◌≡◌, refl, ap, ◌∙◌}
-use Prim.Native.Nat.{ℕ, ◌-◌, ◌^◌, ◌≤◌}
+use Prim.Native.Nat.{ℕ, ◌^◌}
 use native.Mathlib.Omega.{arith}
-use borrow.Author.Rules.{rules}
 use Rattle.lines.specs.Numbers.{numbers, elements, entry}
 use Rattle.properties.specs.Steps.Pairs.{over_lines}
 use Rattle.matrix.proofs.Selections.{shifted}

@@ -1,12 +1,8 @@
 -- `properties::branch::over_lines` meets its contract: the choices of lines before `lines` are tried. Assumes nothing.
-use mathlib.Core.Path.{◌≡◌, refl, ap, ◌∙◌}
-use Prim.Native.Nat.{ℕ, ◌-◌, ◌^◌, ◌≤◌}
-use native.Mathlib.Omega.{arith}
-use borrow.Author.Rules.{rules}
+use mathlib.Core.Path.{◌≡◌}
+use Prim.Native.Nat.{◌-◌, ◌≤◌}
 use Rattle.lines.specs.Numbers.{numbers, elements, entry}
 use Rattle.properties.specs.Steps.Pairs.{over_lines}
-use Rattle.matrix.proofs.Selections.{shifted}
-use Rattle.properties.proofs.Trials.{lines_more}
 use Rattle.properties.proofs.branch.over_lines.Given as goal
 
 abbrev pub invariant-loop-lines : goal.invariant-loop-lines

@@ -1,14 +1,6 @@
 -- `properties::branch::pivot` meets its contract: the lines passed have 0 in column 0. Assumes nothing.
-use mathlib.Core.Path.{◌≡◌, sym, ap}
-use mathlib.Core.Bool.{not}
+use mathlib.Core.Path.{◌≡◌}
 use Prim.Native.Nat.{ℕ, ◌-◌, ◌≤◌, ◌<◌}
-use native.Mathlib.Nat.{not-suc-le-zero}
-use borrow.Author.Count.{below_more}
-use native.Mathlib.Omega.{arith}
-use lib.Dec.{eqb}
-use borrow.Author.Rules.{rules}
-use borrow.Author.Tests.{eq-eqb, ne_eqb}
-use Rattle.field.proofs.Inverses.{first_is, first_none}
 use Rattle.lines.specs.Numbers.{entry}
 use Rattle.properties.proofs.branch.pivot.Given as goal
 

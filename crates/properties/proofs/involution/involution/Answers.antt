@@ -1,10 +1,8 @@
 -- `properties::involution::involution` meets its contract: the lines before line i are those of the identity. Assumes nothing.
 use mathlib.Core.Path.{◌≡◌, sym, ap, ◌∙◌}
-use mathlib.Core.Bool.{true, not}
-use Prim.Native.Nat.{ℕ, ◌-◌, ◌≤◌, ◌<◌}
+use mathlib.Core.Bool.{not}
 use native.Mathlib.Nat.{not-suc-le-zero}
 use native.Mathlib.Omega.{arith}
-use borrow.Author.Rules.{rules}
 use Rattle.lines.specs.Numbers.{entry, InField}
 use Rattle.properties.specs.Steps.Identity.{is_unit_line}
 use Rattle.matrix.proofs.Squares.{each_every, every_stops, every_goes}

@@ -1,16 +1,10 @@
 -- `properties::involution::is_unit_line` meets its contract: the entries before column j are those of the identity. Assumes nothing.
-use mathlib.Core.Path.{◌≡◌, sym, ap₂, ◌∙◌}
+use mathlib.Core.Path.{◌≡◌}
 use mathlib.Core.Bool.{true}
 use Prim.Native.Nat.{ℕ, ◌-◌, ◌≤◌, ◌<◌}
-use native.Mathlib.Nat.{not-suc-le-zero}
-use native.Mathlib.Omega.{arith}
-use borrow.Author.Count.{below_more}
-use borrow.Author.Tests.{eq-eqb, ne_eqb}
 use lib.Dec.{eqb}
-use borrow.Author.Rules.{rules}
 use Rattle.lines.specs.Numbers.{entry}
-use Rattle.properties.specs.Steps.Identity.{unit, square_entry, is_unit_line}
-use Rattle.matrix.proofs.Squares.{each_every, every_not}
+use Rattle.properties.specs.Steps.Identity.{unit, square_entry}
 use Rattle.properties.proofs.involution.is_unit_line.Given as goal
 
 abbrev pub invariant-loop-j : goal.invariant-loop-j

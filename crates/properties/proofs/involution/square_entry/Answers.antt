@@ -1,8 +1,7 @@
 -- `properties::involution::square_entry` meets its contract: the first k products are added. Assumes nothing.
 use mathlib.Core.Path.{◌≡◌, refl, ap, ◌∙◌}
-use Prim.Native.Nat.{ℕ, ◌-◌, ◌≤◌}
+use Prim.Native.Nat.{ℕ}
 use native.Mathlib.Omega.{arith}
-use borrow.Author.Rules.{rules}
 use Rattle.algebra.specs.Matrix.{sum}
 use Rattle.field.specs.Polynomial.{product}
 use Rattle.lines.specs.Numbers.{numbers, entry, InField}

@@ -1,13 +1,9 @@
 -- `properties::involution::square_entry` meets its contract: the first k products are added. Assumes nothing.
-use mathlib.Core.Path.{◌≡◌, refl, ap, ◌∙◌}
-use Prim.Native.Nat.{ℕ, ◌-◌, ◌≤◌}
-use native.Mathlib.Omega.{arith}
-use borrow.Author.Rules.{rules}
+use mathlib.Core.Path.{◌≡◌}
+use Prim.Native.Nat.{◌-◌, ◌≤◌}
 use Rattle.algebra.specs.Matrix.{sum}
 use Rattle.field.specs.Polynomial.{product}
-use Rattle.lines.specs.Numbers.{numbers, entry, InField}
-use Rattle.lines.proofs.Filled.{sum_more}
-use Rattle.properties.specs.Steps.Identity.{square_entry}
+use Rattle.lines.specs.Numbers.{numbers, entry}
 use Rattle.properties.proofs.involution.square_entry.Given as goal
 
 abbrev pub invariant-loop-k : goal.invariant-loop-k

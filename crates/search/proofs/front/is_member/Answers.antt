@@ -2,12 +2,10 @@
 use lib.ListN.{get_or}
 use borrow.Author.Tests.{eq-eqb, ne_eqb}
 use Rattle.search.proofs.Refusals.{test_none, test_found, test_next, member_here, member_none}
-use mathlib.Core.Path.{◌≡◌, refl, sym}
-use Prim.Native.Nat.{◌-◌, ◌≤◌, zero-le}
+use mathlib.Core.Path.{refl, sym}
+use Prim.Native.Nat.{zero-le}
 use native.Mathlib.Omega.{arith}
-use lib.ListN.{length, drop}
 use Rattle.rows.specs.Lightest.{member}
-use borrow.Author.Rules.{rules}
 use Rattle.search.proofs.front.is_member.Goals as goal
 
 pub loop-i-init : goal.loop-i-init

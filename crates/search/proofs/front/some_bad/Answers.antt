@@ -1,7 +1,6 @@
 -- `search::front::some_bad` meets its contract. Assumes nothing.
 use mathlib.Core.Path.{sym, ◌∙◌}
 use Rattle.search.proofs.Refusals.{bad_zero, bad_repeated}
-use borrow.Author.Rules.{rules}
 use Rattle.search.proofs.front.some_bad.Goals as goal
 
 pub returns-then-is_member : goal.returns-then-is_member

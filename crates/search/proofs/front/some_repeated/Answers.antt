@@ -1,11 +1,9 @@
 -- `search::front::some_repeated` meets its contract. Assumes nothing.
-use mathlib.Core.Path.{◌≡◌, refl, sym, ◌∙◌}
-use Prim.Native.Nat.{◌-◌, ◌≤◌, zero-le}
+use mathlib.Core.Path.{refl, sym, ◌∙◌}
+use Prim.Native.Nat.{zero-le}
 use native.Mathlib.Omega.{arith}
-use lib.ListN.{length, drop}
 use Rattle.rows.specs.Candidates.{some_repeated}
 use Rattle.search.proofs.Refusals.{test_none, test_found, test_next, repeated_here, repeated_none, rest_member}
-use borrow.Author.Rules.{rules}
 use Rattle.search.proofs.front.some_repeated.Goals as goal
 
 pub loop-i-init : goal.loop-i-init

@@ -1,11 +1,8 @@
 -- `search::front::some_repeated` meets its contract. Assumes nothing.
-use mathlib.Core.Path.{◌≡◌, refl, sym, ◌∙◌}
-use Prim.Native.Nat.{◌-◌, ◌≤◌, zero-le}
-use native.Mathlib.Omega.{arith}
+use mathlib.Core.Path.{◌≡◌}
+use Prim.Native.Nat.{◌-◌, ◌≤◌}
 use lib.ListN.{length, drop}
 use Rattle.rows.specs.Candidates.{some_repeated}
-use Rattle.search.proofs.Refusals.{test_none, test_found, test_next, repeated_here, repeated_none, rest_member}
-use borrow.Author.Rules.{rules}
 use Rattle.search.proofs.front.some_repeated.Given as goal
 
 abbrev pub invariant-loop-i : goal.invariant-loop-i

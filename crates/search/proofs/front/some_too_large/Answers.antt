@@ -1,11 +1,9 @@
 -- `search::front::some_too_large` meets its contract. Assumes nothing.
 use Rattle.search.proofs.Refusals.{test_none, test_found, test_next, large_here, large_none, large_true, large_false}
-use mathlib.Core.Path.{◌≡◌, refl}
-use Prim.Native.Nat.{◌-◌, ◌≤◌, zero-le}
+use mathlib.Core.Path.{refl}
+use Prim.Native.Nat.{zero-le}
 use native.Mathlib.Omega.{arith}
-use lib.ListN.{length, drop}
 use Rattle.rows.specs.Candidates.{some_too_large}
-use borrow.Author.Rules.{rules}
 use Rattle.field.proofs.Calls.{elements_most}
 use Rattle.search.proofs.front.some_too_large.Goals as goal
 

@@ -1,13 +1,12 @@
 -- `walk::judge::all_next` meets its contract: the first d entries come next. Assumes nothing.
-use mathlib.Core.Path.{◌≡◌, sym, ap}
-use mathlib.Core.Bool.{Bool, true, not}
-use Prim.Native.Nat.{ℕ, ◌-◌, ◌≤◌, ◌<◌}
+use mathlib.Core.Path.{sym, ap}
+use mathlib.Core.Bool.{Bool, not}
+use Prim.Native.Nat.{ℕ}
 use native.Mathlib.Nat.{not-suc-le-zero}
 use native.Mathlib.Omega.{arith}
 use lib.ListN.{get_or, take}
 use Rattle.matrix.proofs.Squares.{each_every, every_stops, every_goes}
 use Rattle.cuts.specs.Steps.Hadamard.{is_next}
-use borrow.Author.Rules.{rules}
 use Rattle.walk.proofs.judge.all_next.Goals as goal
 use Rattle.walk.proofs.judge.all_next.Goals.{Start}
 

@@ -1,6 +1,5 @@
 -- `walk::judge::is_heavy` meets its contract. Assumes nothing.
-use mathlib.Core.Bool.{not}
-use mathlib.Core.Path.{sym, ap}
+use mathlib.Core.Path.{sym}
 use borrow.Author.Tests.{not-true, not-false}
 use Rattle.lightest.proofs.Prefixes.{heavy_none, heavy_counts, heavy_depths}
 use Rattle.walk.proofs.judge.is_heavy.Goals as goal

@@ -1,10 +1,9 @@
 -- `walk::judge::judged` meets its contract. Assumes nothing.
-use mathlib.Core.Path.{◌≡◌, sym, ◌∙◌, ap}
-use mathlib.Core.Bool.{Bool, true, not}
+use mathlib.Core.Path.{◌≡◌, sym, ◌∙◌}
+use mathlib.Core.Bool.{Bool, true}
 use mathlib.Core.List.{List}
 use Prim.Native.Nat.{ℕ}
 use lib.ListN.{take}
-use borrow.Author.Tests.{not-true, not-false}
 use Rattle.rows.specs.Lightest.{found}
 use Rattle.cuts.specs.Steps.Cuts.{tried}
 use Rattle.cuts.specs.Steps.Families.{hadamard_cuts}
@@ -13,7 +12,6 @@ use Rattle.lightest.specs.declared.Best.{Best as Kept}
 use Rattle.lightest.specs.Steps.Prefix.{kept}
 use Rattle.lightest.proofs.Prefixes.{kept_row}
 use Rattle.walk.proofs.Judged.{tried_whole, keeps_bad, keeps_heavy, keeps_light}
-use borrow.Author.Rules.{rules}
 use Rattle.walk.proofs.judge.judged.Goals as goal
 use Rattle.walk.proofs.judge.judged.Goals.{After-depth-depth, Start}
 

@@ -1,13 +1,12 @@
 -- `walk::judge::planes_hold` meets its contract: the planes pass that the first d entries complete. Assumes nothing.
-use mathlib.Core.Path.{◌≡◌, sym, ap}
-use mathlib.Core.Bool.{Bool, true, not}
-use Prim.Native.Nat.{ℕ, ◌-◌, ◌≤◌, ◌<◌}
+use mathlib.Core.Path.{sym, ap}
+use mathlib.Core.Bool.{Bool, not}
+use Prim.Native.Nat.{ℕ}
 use native.Mathlib.Nat.{not-suc-le-zero}
 use native.Mathlib.Omega.{arith}
 use Rattle.lines.specs.Numbers.{WordsInField}
 use Rattle.matrix.proofs.Squares.{each_every, every_stops, every_goes}
 use Rattle.cuts.specs.Steps.Hadamard.{planes_pass}
-use borrow.Author.Rules.{rules}
 use Rattle.walk.proofs.judge.planes_hold.Goals as goal
 use Rattle.walk.proofs.judge.planes_hold.Goals.{Start}
 

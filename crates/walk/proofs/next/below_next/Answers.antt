@@ -1,7 +1,6 @@
 -- `walk::next::below_next` meets its contract. Assumes nothing.
 use native.Mathlib.Omega.{arith}
 use Rattle.walk.proofs.Ranks.{ascend_sorted, next_letter, next_other}
-use borrow.Author.Rules.{rules}
 use Rattle.walk.proofs.next.below_next.Goals as goal
 
 pub overflow_cast-letters : goal.overflow_cast-letters

@@ -1,11 +1,11 @@
 -- `walk::next::filled` meets its contract: filled up from place i on, the array is filled up from the start on. Assumes nothing.
 use mathlib.Core.Path.{◌≡◌, refl, ap, ◌∙◌}
 use mathlib.Core.List.{List}
-use Prim.Native.Nat.{ℕ, ◌-◌, ◌≤◌}
+use Prim.Native.Nat.{ℕ}
 use native.Mathlib.Omega.{arith}
-use lib.ListN.{length, take, drop, replicate, length-set}
+use lib.ListN.{length, length-set}
 use lib.Seq.{drop-set-lt}
-use Rattle.walk.specs.Steps.Successors.{filled_up, eight}
+use Rattle.walk.specs.Steps.Successors.{eight}
 use Rattle.walk.proofs.Filling.{fill_turn, fill_end}
 use borrow.Author.Rules.{rules}
 use Rattle.walk.proofs.next.filled.Goals as goal

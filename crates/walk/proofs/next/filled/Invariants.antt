@@ -1,13 +1,8 @@
 -- `walk::next::filled` meets its contract: filled up from place i on, the array is filled up from the start on. Assumes nothing.
-use mathlib.Core.Path.{◌≡◌, refl, ap, ◌∙◌}
-use mathlib.Core.List.{List}
-use Prim.Native.Nat.{ℕ, ◌-◌, ◌≤◌}
-use native.Mathlib.Omega.{arith}
-use lib.ListN.{length, take, drop, replicate, length-set}
-use lib.Seq.{drop-set-lt}
-use Rattle.walk.specs.Steps.Successors.{filled_up, eight}
-use Rattle.walk.proofs.Filling.{fill_turn, fill_end}
-use borrow.Author.Rules.{rules}
+use mathlib.Core.Path.{◌≡◌}
+use Prim.Native.Nat.{◌-◌, ◌≤◌}
+use lib.ListN.{length, take, drop, replicate}
+use Rattle.walk.specs.Steps.Successors.{filled_up}
 use Rattle.walk.proofs.next.filled.Given as goal
 
 abbrev pub invariant-loop-i : goal.invariant-loop-i

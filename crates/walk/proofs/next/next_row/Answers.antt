@@ -1,10 +1,10 @@
 -- `walk::next::next_row` meets its contract: the entries from place i on cannot be raised. Assumes nothing.
 use mathlib.Core.Path.{◌≡◌, refl, sym, ap, ◌∙◌}
-use Prim.Native.Nat.{◌-◌, ◌≤◌}
+use Prim.Native.Nat.{◌-◌}
 use native.Mathlib.Omega.{arith}
-use lib.ListN.{length, take}
+use lib.ListN.{length}
 use lib.Seq.{drop-set-lt}
-use Rattle.walk.specs.Steps.Successors.{eight, raised_below, row_behind}
+use Rattle.walk.specs.Steps.Successors.{eight, row_behind}
 use Rattle.walk.proofs.Filling.{eight_zeros, raise_none, raise_some, raise_end}
 use borrow.Author.Rules.{rules}
 use Rattle.walk.proofs.next.next_row.Goals as goal

@@ -1,7 +1,7 @@
 -- `walk::next::rank_table` meets its contract: after a turns the first a entries are stored. Assumes nothing.
 use mathlib.Core.Path.{◌≡◌, refl, sym, ap, ◌∙◌}
 use mathlib.Core.List.{append-nil}
-use Prim.Native.Nat.{suc, ◌-◌, ◌≤◌, ◌<◌, zero-le}
+use Prim.Native.Nat.{suc, ◌<◌, zero-le}
 use native.Mathlib.Omega.{arith}
 use native.Mathlib.Numerals.{add-one}
 use Rattle.algebra.specs.Matrix.{tabulate}
@@ -9,7 +9,6 @@ use Rattle.lines.specs.Steps.Blocks.{filled_to}
 use Rattle.lines.proofs.Filled.{filled_to_more}
 use Rattle.walk.specs.Steps.Successors.{count_below, rank_table}
 use Rattle.walk.proofs.Ranks.{below_most, below_none}
-use borrow.Author.Rules.{rules}
 use Rattle.walk.proofs.next.rank_table.Goals as goal
 
 pub loop-a-init : goal.loop-a-init

@@ -1,15 +1,8 @@
 -- `walk::next::rank_table` meets its contract: after a turns the first a entries are stored. Assumes nothing.
-use mathlib.Core.Path.{◌≡◌, refl, sym, ap, ◌∙◌}
-use mathlib.Core.List.{append-nil}
-use Prim.Native.Nat.{suc, ◌-◌, ◌≤◌, ◌<◌, zero-le}
-use native.Mathlib.Omega.{arith}
-use native.Mathlib.Numerals.{add-one}
-use Rattle.algebra.specs.Matrix.{tabulate}
+use mathlib.Core.Path.{◌≡◌}
+use Prim.Native.Nat.{suc, ◌-◌, ◌≤◌}
 use Rattle.lines.specs.Steps.Blocks.{filled_to}
-use Rattle.lines.proofs.Filled.{filled_to_more}
-use Rattle.walk.specs.Steps.Successors.{count_below, rank_table}
-use Rattle.walk.proofs.Ranks.{below_most, below_none}
-use borrow.Author.Rules.{rules}
+use Rattle.walk.specs.Steps.Successors.{count_below}
 use Rattle.walk.proofs.next.rank_table.Given as goal
 
 abbrev pub invariant-loop-a : goal.invariant-loop-a

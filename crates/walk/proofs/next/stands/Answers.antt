@@ -1,9 +1,8 @@
 -- `walk::next::stands` meets its contract: none of the first i entries is the letter. Assumes nothing.
 use mathlib.Core.Path.{◌≡◌, refl, sym}
-use mathlib.Core.Bool.{false}
-use Prim.Native.Nat.{◌-◌, ◌≤◌, zero-le}
+use Prim.Native.Nat.{zero-le}
 use native.Mathlib.Omega.{arith}
-use lib.ListN.{length, take}
+use lib.ListN.{length}
 use Rattle.rows.specs.Lightest.{member}
 use Rattle.cuts.proofs.HadamardCuts.{next_turn, member_at}
 use borrow.Author.Rules.{rules}

@@ -1,12 +1,9 @@
 -- `walk::next::stands` meets its contract: none of the first i entries is the letter. Assumes nothing.
-use mathlib.Core.Path.{◌≡◌, refl, sym}
+use mathlib.Core.Path.{◌≡◌}
 use mathlib.Core.Bool.{false}
-use Prim.Native.Nat.{◌-◌, ◌≤◌, zero-le}
-use native.Mathlib.Omega.{arith}
-use lib.ListN.{length, take}
+use Prim.Native.Nat.{◌-◌, ◌≤◌}
+use lib.ListN.{take}
 use Rattle.rows.specs.Lightest.{member}
-use Rattle.cuts.proofs.HadamardCuts.{next_turn, member_at}
-use borrow.Author.Rules.{rules}
 use Rattle.walk.proofs.next.stands.Given as goal
 
 abbrev pub invariant-loop-i : goal.invariant-loop-i
