@@ -30,21 +30,24 @@ import samples
 for name in ("ROWFIND", "CALLS"):
     os.environ.pop(name, None)  # what is tested is what is here
 
-COMMANDS = "bash cat chmod dirname env find flock grep head mkdir mktemp mv readlink rm sed sleep".split()
+COMMANDS = "bash cat chmod cp dirname env find flock grep head mkdir mktemp mv readlink rm sed sleep".split()
 
 # Makes the one source there is the program. Where the file `slow` is there, it waits for a process, whose number it leaves and
 # which only a signal ends; where `held` is there, until it is gone; where `broken` is there, it fails.
 STAND_IN = """#!/usr/bin/env bash
+cd ../..
 echo once >>builds
-echo "rt: field proved (1 s)"
+echo "rt: chose --jobs 2 for field"
+echo "logic=proved functions=17"
+echo "rt: chose --jobs 2 for rowfind"
 echo working >"$TMPDIR/work"
 [ ! -e slow ] || { sleep 1000 & echo $! >sleeper; wait; }
 while [ -e held ]; do sleep 0.02; done
-[ ! -e broken ] || { echo "rt: rowfind NOT PROVED (exit 1, 2 s)"; exit 1; }
-mkdir -p target/bin
-{ echo '#!/usr/bin/env bash'; cat crates/rowfind/src/main.rt; } >target/bin/rowfind
-chmod +x target/bin/rowfind
-echo "rt: rowfind proved (2 s)"
+[ ! -e broken ] || { echo "fn rowfind::main: not proved"; echo "logic=not-proved"; exit 1; }
+echo "logic=proved functions=2"
+mkdir -p crates/rowfind/out
+{ echo '#!/usr/bin/env bash'; cat crates/rowfind/src/main.rt; } >crates/rowfind/out/rowfind
+chmod +x crates/rowfind/out/rowfind
 """
 
 
@@ -159,7 +162,8 @@ class Rowfind(Place):
         self.assertEqual((status, answer), (0, "one\n"))
         lines = said.splitlines()
         self.assertIn("first use", lines[0])
-        self.assertEqual(lines[1:], ["rowfind: field proved (1 s)", "rowfind: rowfind proved (2 s)"])
+        proved = [re.sub(r"[0-9]+ s", "N s", line) for line in lines[1:]]
+        self.assertEqual(proved, ["rowfind: field proved (N s)", "rowfind: rowfind proved (N s)"])
         self.assertEqual(self.left_behind(), ["rowfind-built"])
         self.assertEqual(self.asked(), (0, "one\n", ""))
         self.assertEqual(self.builds(), 1)
@@ -221,7 +225,7 @@ class Rowfind(Place):
         self.source("echo two")
         status, answer, said = self.asked()
         self.assertEqual((status, answer), (3, ""))
-        self.assertIn("NOT PROVED", said)
+        self.assertIn("not proved", said)
         self.assertIn("target/rowfind-build.log says why", said.splitlines()[-1])
         os.remove(self.path("broken"))
         self.assertEqual(self.asked()[:2], (0, "two\n"))
@@ -1069,7 +1073,7 @@ class Bindings(Place):
             status, _, said = run([os.path.join(self.project, script)], env=self.environment)
             self.assertEqual((status, said.count("\n")), (1, 1), said)
             self.assertIn("the command rt", said)
-            self.assertIn("run 'rt staticlib answer' first", said)
+            self.assertIn("run 'tools/build archive' first", said)
 
     def test_the_longest_answer_is_one_figure(self):
         places = {
@@ -1085,7 +1089,7 @@ class Bindings(Place):
         manifest = os.path.join(self.project, "bindings", "rust", "Cargo.toml")
         status, _, said = run(["cargo", "check", "--quiet", "--offline", "--manifest-path", manifest])
         self.assertNotEqual(status, 0)
-        self.assertIn("libanswer.a is missing: run 'rt staticlib answer' first", said)
+        self.assertIn("libanswer.a is missing: run 'tools/build archive' first", said)
 
     def test_an_old_library_is_not_linked(self):
         write(os.path.join(self.project, "target", "staticlib", "libanswer.a"), "")
@@ -1098,7 +1102,7 @@ class Bindings(Place):
         write(os.path.join(self.project, "crates", "answer", "src", "lib.rt"), "new")
         status, _, said = run(asked, env=self.environment)
         self.assertEqual((status, said.count("\n")), (1, 1))
-        self.assertIn("older than the sources: run 'rt staticlib answer' first", said)
+        self.assertIn("older than the sources: run 'tools/build archive' first", said)
 
 
 if __name__ == "__main__":

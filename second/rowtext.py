@@ -60,9 +60,10 @@ def ready_calls():
     if os.environ.get("CALLS"):
         return os.path.abspath(os.environ["CALLS"])
     needed("rt", "proves and builds the program calls", "the Rattle kit")
-    done = subprocess.run(["rt", "check", "calls"], cwd=ROOT, stdout=subprocess.PIPE, stderr=subprocess.STDOUT, check=False)
+    build = [os.path.join(ROOT, "tools", "build"), "calls"]
+    done = subprocess.run(build, cwd=ROOT, stdout=subprocess.PIPE, stderr=subprocess.STDOUT, check=False)
     if done.returncode:
-        give_up("the program calls could not be built from the sources that are here: `rt check calls` says why")
+        give_up("the program calls could not be built from the sources that are here: `tools/build calls` says why")
     return os.path.join(ROOT, "target", "bin", "calls")
 
 

@@ -1,4 +1,4 @@
-// Links the static library that `rt staticlib answer` writes.
+// Links the static library that `tools/build archive` writes.
 use std::path::Path;
 use std::process::Command;
 

@@ -3,5 +3,6 @@ pub mod Pruning
 pub mod PlaneCuts
 pub mod HadamardCuts
 pub mod WalkCuts
+pub mod LetterTest
 pub mod CirculantCuts
 pub mod Families

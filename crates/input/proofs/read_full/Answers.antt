@@ -21,8 +21,8 @@ pub loop-done-preserved : goal.loop-done-preserved
 loop-done-preserved g c =
     let from = c.loop-done.done in
     let room = length c.loop-done.buffer - from in
-    let more = front_more from room c.in_ok-n.n c.loop-done.buffer c.read.new.buf c.loop-done.invariant.inside c.in_ok-n.ensures.bound.0 in
+    let more = front_more from room c.in-Ok.n c.loop-done.buffer c.read.new.buf c.loop-done.invariant.inside c.in-Ok.ensures.bound.0 in
     record {
       inside = search rules;
-      read = subst (Consumes _ _) more (Consumes-trans _ _ _ _ _ c.loop-done.invariant.read c.in_ok-n.ensures.bytes.0);
+      read = subst (Consumes _ _) more (Consumes-trans _ _ _ _ _ c.loop-done.invariant.read c.in-Ok.ensures.bytes.0);
     }

@@ -8,7 +8,7 @@ use lib.Dec.{leb, lit≤}
 use lib.ListN.{length, get_or}
 use Rattle.matrix.proofs.Selections.{low_digit}
 use Rattle.rows.specs.Steps.Around.{prime_places, place_below}
-use Rattle.cuts.proofs.CirculantCuts.{around_zero, around_first, around_later, below_lt}
+use Rattle.cuts.proofs.LetterTest.{around_zero, around_first, around_later, below_lt}
 use borrow.Author.Rules.{rules}
 use Rattle.cuts.proofs.circulant.is_next.Goals as goal
 use Rattle.cuts.proofs.circulant.is_next.Goals.{Else-level-eq0}
