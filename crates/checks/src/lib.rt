@@ -78,6 +78,7 @@ fn matrix_fault(p: u32, m: [[u8; 8]; 8], n: u32) -> Outcome
 // ---- with a table of products of their own
 
 // The determinant.
+#[inline(never)]
 fn determinant_of(p: u16, m: [[u8; 8]; 8], n: usize) -> u8
     requires { Modulus p × (n ≤ 8) × InField p n n m }
     ensures { result ≡ det (numbers p) n (entry m) }
@@ -87,6 +88,7 @@ fn determinant_of(p: u16, m: [[u8; 8]; 8], n: usize) -> u8
 }
 
 // The branch number.
+#[inline(never)]
 fn branch_number_of(p: u16, m: [[u8; 8]; 8], n: usize) -> usize
     requires { Modulus p × (1 ≤ n) × (n ≤ 8) × InField p n n m }
     ensures { result ≡ branch_number (numbers p) (elements p) n (entry m) }
@@ -96,6 +98,7 @@ fn branch_number_of(p: u16, m: [[u8; 8]; 8], n: usize) -> usize
 }
 
 // Whether every square block has a nonzero determinant.
+#[inline(never)]
 fn is_mds(p: u16, m: [[u8; 8]; 8], n: usize) -> bool
     requires { Modulus p × (1 ≤ n) × (n ≤ 8) × InField p n n m }
     ensures { result ≡ is_mds (numbers p) (elements p) n (entry m) }

@@ -82,7 +82,9 @@ fn product_by_half(p: u16, a: u8, b: u8, half: u8) -> u8
     (twice ^ (b as u16 & 1) * a as u16) as u8
 }
 
-// The table of all products: a times b at place a·256 + b, for every element a and every byte b; 0 behind them.
+// The table of all products: a times b at place a·256 + b, for every element a and every byte b; 0 behind them. Not inlined, here and where
+// the table is used, so that a call has two tables on its stack and no more.
+#[inline(never)]
 pub fn products(p: u16) -> [u8; 65536]
     requires { Modulus p }
     ensures { Products p result }

@@ -25,6 +25,7 @@ pub struct Best {
 }
 
 // The lightest row over the candidates, which are nonzero elements.
+#[inline(never)]
 pub fn lightest_row(family: Family, p: u16, n: usize, candidates: &[u32]) -> Best
     requires { Modulus p × OrderOf family n × (some_too_large p candidates.now ≡ false) × (some_bad candidates.now ≡ false) }
     ensures { result ≡ kept p n (lightest_row (shape_of family) p n candidates.now) }

@@ -76,6 +76,7 @@ fn step(
 }
 
 // As many steps as the budget says, or to the end of the rows.
+#[inline(never)]
 fn advance(
     p: u16,
     n: usize,
@@ -135,6 +136,7 @@ pub fn begin(p: u16, n: usize, candidates: &[u32]) -> Walk
 }
 
 // The walk after as many rows more as the budget says, or at its end.
+#[inline(never)]
 pub fn run(walk: Walk, budget: u64) -> Walk
     requires { IsWalk walk }
     ensures { result ≡ walk_at walk.polynomial walk.order walk.counts (walk.position.tried + budget) }
