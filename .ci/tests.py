@@ -37,13 +37,13 @@ COMMANDS = "bash cat chmod cp dirname env find flock grep head mkdir mktemp mv r
 STAND_IN = """#!/usr/bin/env bash
 cd ../..
 echo once >>builds
-echo "rt: chose --jobs 2 for field"
+echo "crate field: modules loaded=0 checked=51"
 echo "logic=proved functions=17"
-echo "rt: chose --jobs 2 for rowfind"
 echo working >"$TMPDIR/work"
 [ ! -e slow ] || { sleep 1000 & echo $! >sleeper; wait; }
 while [ -e held ]; do sleep 0.02; done
 [ ! -e broken ] || { echo "fn rowfind::main: not proved"; echo "logic=not-proved"; exit 1; }
+echo "crate rowfind: modules loaded=2 checked=9"
 echo "logic=proved functions=2"
 mkdir -p crates/rowfind/out
 { echo '#!/usr/bin/env bash'; cat crates/rowfind/src/main.rt; } >crates/rowfind/out/rowfind
