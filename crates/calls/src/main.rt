@@ -300,12 +300,14 @@ fn respond(bytes: &[u8]) -> [u8; 52]
     bytes_of(reply_of(bytes))
 }
 
-// At most 65,536 records of 88 bytes; what is left at the end is no record. A write that fails ends the program with its error.
+// At most 65,536 records of 88 bytes; what is left at the end, or where a read fails, is no record. A write that fails ends the program with its error.
 fn main(rt: HostRuntime) -> io::Result<()> {
     let mut bytes = [0u8; 88];
     let mut k = 0usize;
     while k < 65536 {
-        if input::read_full(&mut rt.stdin(), &mut bytes) < 88 {
+        let mut read = 0;
+        let _ended = input::read_full(&mut rt.stdin(), &mut bytes, &mut read);
+        if read < 88 {
             return Ok(());
         }
         let answer = respond(&bytes);

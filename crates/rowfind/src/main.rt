@@ -18,11 +18,12 @@ fn respond(buffer: &[u8], read: usize, space: &mut [u8]) -> usize
     if reply.number == 0 { reply.length } else { 7 }
 }
 
-// A text has at most 4,096 bytes: one more tells that it is too long. No answer has more than 52,877. A write that fails ends the program
-// with its error.
+// A text has at most 4,096 bytes: one more tells that it is too long. No answer has more than 52,877. A read that fails counts as the end of
+// the text; a write that fails ends the program with its error.
 fn main(rt: HostRuntime) -> io::Result<()> {
     let mut buffer = [0u8; 4097];
-    let read = input::read_full(&mut rt.stdin(), &mut buffer);
+    let mut read = 0;
+    let _ended = input::read_full(&mut rt.stdin(), &mut buffer, &mut read);
     let mut space = [0u8; 52877];
     let shown = respond(&buffer, read, &mut space);
     rt.stdout().write_all(&space[..shown])

@@ -17,12 +17,12 @@ front_more a k n xs ys within fits =
     ∙ ap (λ (l : List ℕ). take a (put_mid a k xs ys) ++ l) (sym behind)
     ∙ sym (take-add a n (put_mid a k xs ys))
 
-pub loop-done-preserved : goal.loop-done-preserved
-loop-done-preserved g c =
-    let from = c.loop-done.done in
-    let room = length c.loop-done.buffer - from in
-    let more = front_more from room c.in-Ok.n c.loop-done.buffer c.read.new.buf c.loop-done.invariant.inside c.in-Ok.ensures.bound.0 in
+pub loop-read-preserved : goal.loop-read-preserved
+loop-read-preserved g c =
+    let from = c.loop-read.read in
+    let room = length c.loop-read.buffer - from in
+    let more = front_more from room c.in-Ok.n c.loop-read.buffer c.read.new.buf c.loop-read.invariant.inside c.in-Ok.ensures.bound.0 in
     record {
       inside = search rules;
-      read = subst (Consumes _ _) more (Consumes-trans _ _ _ _ _ c.loop-done.invariant.read c.in-Ok.ensures.bytes.0);
+      read = subst (Consumes _ _) more (Consumes-trans _ _ _ _ _ c.loop-read.invariant.read c.in-Ok.ensures.bytes.0);
     }

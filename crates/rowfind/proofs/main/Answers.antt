@@ -12,7 +12,7 @@ use Rattle.rowfind.proofs.main.Goals.{After-respond-shown}
 -- no more is shown than the space has
 shown_fits : (c : After-respond-shown) → c.respond-shown.result ≤ length c.respond-shown.new.space
 shown_fits c =
-    let few : length (take c.read_full-read.result c.read_full-read.new.buffer) ≤ 4097 = rw length-take (search rules) in
+    let few : length (take c.read_full-ended.new.done c.read_full-ended.new.buffer) ≤ 4097 = rw length-take (search rules) in
     whole_most 4097 few c.respond-shown.ensures
 
 pub slice_bounds-space-end : goal.slice_bounds-space-end
