@@ -4,7 +4,7 @@
 ghost use Rattle.std.specs.Prelude.{◌≡◌, ◌+◌, ◌-◌, ◌≤◌, ◌<◌, get_or, take, replicate};
 ghost use mathlib.Core.List.{◌++◌, foldl};
 ghost use Rattle.std.specs.Int.Bits.{bit_xor};
-ghost use Rattle.std.proofs.Math.Seq.{paste};
+ghost use lib.Seq.{paste};
 ghost use Rattle.algebra.specs.Matrix.{sum, apply, hadamard};
 ghost use Rattle.field.specs.Polynomial.{◌⊕◌, Modulus, product};
 ghost use Rattle.lines.specs.Numbers.{HalvingOrder, InField, WordsInField, numbers, entry};
