@@ -13,7 +13,7 @@
 extern "C" {
 #endif
 
-/* Stack: a call takes at most 141 KiB, most of it for tables of products. A thread whose stack has ROWFIND_STACK bytes can make
+/* Stack: a call takes at most 96 KiB, most of it for a table of products. A thread whose stack has ROWFIND_STACK bytes can make
  * every call and has some left for its own. Both are measured, not proved: bindings/c/test holds the library to them. */
 #define ROWFIND_STACK (160 * 1024)
 

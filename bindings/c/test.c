@@ -9,7 +9,7 @@
 #include "../../include/rowfind.h"
 
 enum { TEXT = 700, LINE = 600, THREADS = 4, ROUNDS = 200, PAGE = 4096, PAINT = 0xA5 };
-enum { CALL_STACK = 141 * 1024 }; /* what the header says of a call alone */
+enum { CALL_STACK = 96 * 1024 }; /* what the header says of a call alone */
 #define EIGHT(a) a, a, a, a, a, a, a, a
 
 typedef struct {

@@ -2,3 +2,4 @@
 pub mod Limits
 pub mod Demands
 pub mod Reference
+pub mod Steps

@@ -4,70 +4,63 @@
 ghost use Rattle.std.specs.Prelude.{◌≤◌};
 ghost use Rattle.text.specs.Reading.{values_from};
 ghost use Rattle.reply.specs.Due.{request_with, kinds, kind_among, due_to};
-ghost use Rattle.reply.specs.Answered.{Replied, Answered};
+ghost use Rattle.reply.specs.Answered.{RepliedBy, Answered, AnsweredBy};
 
+use crate::kind::Kind;
 use refusal::Refusal;
-use reply::{Reply, refuse};
+use reply::refuse;
+use text::Header;
+
+mod kind;
 
 // Answers a request in form by its kind. The values stand in the part of the request text that follows line one.
-fn answer_kind(
-    part: &[u8],
-    space: &mut [u8],
-    kind: u32,
-    polynomial: u32,
-    order: u32,
-    count: u32,
-    budget: u32,
-) -> Reply
-    requires { budget ≤ 999999 }
-    ensures { Replied (due_to (kind_among kinds kind) (request_with polynomial order budget (values_from part.now 0 count)))
-        space.old space.new result.number result.length }
+fn answer_kind(part: &[u8], space: &mut [u8], header: Header) -> Result<usize, Refusal>
+    requires { header.budget ≤ 999999 }
+    ensures { RepliedBy (due_to (kind_among kinds header.kind) (request_with header.polynomial header.order header.budget (values_from part.now 0 header.count)))
+        space.old space.new result }
 {
-    match kind {
-        1 | 5 => answer_row::search_row(
+    match Kind::try_from(header.kind) {
+        Err(reason) => refuse(space, reason),
+        Ok(Kind::Search(family)) => answer_row::search_row(part, space, header, family),
+        Ok(Kind::Matrix(asked)) => answer_matrix::of_matrix(part, space, header, asked),
+        Ok(Kind::Survey) => answer_survey::survey(
             part,
             space,
-            answer_row::family(kind),
-            polynomial,
-            order,
-            count,
+            header.polynomial,
+            header.order,
+            header.count,
         ),
-        2 | 4 => answer_matrix::of_matrix(part, space, polynomial, order, count, kind == 4),
-        3 => answer_survey::survey(part, space, polynomial, order, count),
-        6 => answer_row::walk_row(part, space, polynomial, order, count, budget),
-        _ => refuse(space, Refusal::Kind),
+        Ok(Kind::Walk) => answer_row::walk_row(part, space, header),
     }
 }
 
-// Answers a request text in the lent space: the number that is returned and the length of the answer.
-pub fn answer(request: &[u8], space: &mut [u8]) -> Reply
-    ensures { Answered request.now space.old space.new result.number result.length }
+// Answers a request text in the lent space: the length of the answer, or the reason of the refusal.
+pub fn answer(request: &[u8], space: &mut [u8]) -> Result<usize, Refusal>
+    ensures { AnsweredBy request.now space.old space.new result }
 {
     match text::read_header(request) {
-        text::Header::Refused => refuse(space, Refusal::Form),
-        text::Header::Read {
-            kind,
-            polynomial,
-            order,
-            count,
-            budget,
-        } => answer_kind(
-            &request[text::line_one_length(kind)..],
-            space,
-            kind,
-            polynomial,
-            order,
-            count,
-            budget,
-        ),
+        Err(reason) => refuse(space, reason),
+        Ok(header) => {
+            let part = &request[text::line_one_length(header.kind)..];
+            answer_kind(part, space, header)
+        }
     }
 }
 
-// The same for callers that lend a place for the length, as those in C: the number is returned, and the length is stored.
+// The same for callers that lend a place for the length, as those in C: the number is returned, and the length is stored, 0 where the request is
+// refused.
 pub fn rowfind_answer(request: &[u8], space: &mut [u8], length: &mut usize) -> u32
     ensures { Answered request.now space.old space.new result length.new }
 {
     let reply = answer(request, space);
-    *length = reply.length;
-    reply.number
+    match reply {
+        Ok(size) => {
+            *length = size;
+            0
+        }
+        Err(reason) => {
+            *length = 0;
+            u32::from(reason)
+        }
+    }
 }

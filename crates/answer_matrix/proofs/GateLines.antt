@@ -1,16 +1,13 @@
 -- The lines of a gate list: its text, piece by piece as it is written, and its length, which the matrix count tells before the first byte is written
 -- (`gate_lines_length`): 13 bytes for line one and for each gate, 7 for each output bit, at most 52,877 in all. Assumes nothing.
-use mathlib.Core.Path.{◌≡◌, refl, sym, ap, ap₂, ◌∙◌, subst}
-use mathlib.Core.Logic.{◌⊎◌, ⊎_elim}
-use mathlib.Core.Bool.{Bool, true, false}
+use mathlib.Core.Path.{◌≡◌, refl, sym, ap, ap₂, ◌∙◌}
 use mathlib.Core.List.{List, [], ◌∷◌, ◌++◌, map, map-append}
 use Prim.Native.Nat.{ℕ, ◌+◌, ◌-◌, ◌*◌, ◌^◌, ◌≤◌, ◌<◌}
+use native.Mathlib.Nat.{add-zero}
 use native.Mathlib.Numerals.{add-one}
 use native.Mathlib.Omega.{arith}
-use borrow.Author.Tests.{eq-eqb, ne_eqb}
-use lib.Dec.{eqb}
-use lib.ListN.{length, length-append, get_or, drop, drop_of_length-le}
-use lib.Seq.{drop-cons}
+use lib.ListN.{length, length-append, get_or, take, drop, drop_of_length-le}
+use lib.Seq.{take_all, drop-cons}
 use Rattle.field.specs.Polynomial.{Modulus, degree}
 use Rattle.lines.specs.Counts.{matrix_count}
 use Rattle.gates.specs.Gates.{Gate, outputs, joining, gates_of, carrier_of, gates_from, carriers_from, gates_of_matrix, carriers_of_matrix}
@@ -18,49 +15,21 @@ use Rattle.gates.proofs.Counting.{length_gates, gates_count}
 use Rattle.gates.proofs.SameEntries.{gates_same, carriers_same}
 use Rattle.gates.proofs.Netlists.{bits_few, gates_few, carriers_length}
 use Rattle.text.specs.Text.{line_text, answer_text}
-use Rattle.text.specs.Writing.{Put}
-use Rattle.text.specs.Reading.{value_at, values_from}
+use Rattle.text.specs.declared.Writer.{Writer}
+use Rattle.text.specs.Writing.{Wrote}
 use Rattle.text.proofs.Lengths.{length_line}
-use Rattle.text.proofs.Places.{Rest, rest_start, rest_step, rest_end}
+use Rattle.text.proofs.Places.{Left, left_start, left_step, left_end, left_room}
 use Rattle.text.proofs.Answers.{answer_append}
-use Rattle.reply.specs.Due.{entries_of, check, gates, gate_line, carrier_line, gate_lines, kinds, kind_among, due_to}
-use Rattle.answer_matrix.specs.Steps.Asked.{matrix_lines, matrix_kind}
+use Rattle.reply.specs.Due.{gate_line, carrier_line, gate_lines}
+use Rattle.answer_matrix.specs.declared.gate_list.Part.{Part}
+use Rattle.answer_matrix.specs.declared.gate_list.Part.TheVariants.{Gates, Carrier}
 use Rattle.answer_matrix.specs.Steps.Outputs.{output_text, output_texts}
-use Rattle.reply.proofs.DueFrom.{kind_check, kind_gates, BudgetUnseen}
-use Rattle.reply.proofs.Values.{entries_read, check_read}
-
--- ---- the kinds that ask about a matrix
-
-asked_gates : matrix_kind true ≡ gates
-unfolding matrix_kind gates
-asked_gates = refl
-
-asked_check : matrix_kind false ≡ check
-unfolding matrix_kind check
-asked_check = refl
-
--- of the kinds 2 and 4 it is 4 that asks for gates
-pub asked_kind : (kind : ℕ) → (kind ≡ 2) ⊎ (kind ≡ 4) → matrix_kind (eqb kind 4) ≡ kind_among kinds kind
-asked_kind kind h =
-    ⊎_elim (λ (e : kind ≡ 2). ap matrix_kind (ne_eqb kind 4 (λ q. omega arith)) ∙ asked_check ∙ kind_check kind e)
-    (λ (e : kind ≡ 4). ap matrix_kind (eq-eqb kind 4 e) ∙ asked_gates ∙ kind_gates kind e) h
-
--- neither looks at a budget
-pub matrix_unseen : (gates : Bool) → BudgetUnseen (matrix_kind gates)
-unfolding due_to matrix_kind
-matrix_unseen gates p n budget values = refl
 
 -- ---- the gates of an output bit, one by one
 
 -- those that join the inputs from place k on
 abbrev pub joining_text : ℕ → ℕ → List ℕ → List ℕ
 joining_text next running l = answer_text (map gate_line (joining next running l))
-
--- they begin with the lowest input
-pub gates_first : (next : ℕ) (l : List ℕ) → gates_of next l ≡ joining next (get_or l 0 0) (drop 1 l)
-unfolding gates_of joining
-gates_first next [] = refl
-gates_first next (v ∷ l) = refl
 
 -- one gate is written
 pub joining_next : (next running : ℕ) (l : List ℕ) (k : ℕ) → k < length l
@@ -73,72 +42,81 @@ pub joining_end : (next running : ℕ) (l : List ℕ) (k : ℕ) → length l ≤
 unfolding joining answer_text
 joining_end next running l k h = rw (drop_of_length-le l h)
 
--- what is left to write, before the first gate, after a gate, and after the last
-pub gates_start : (l : List ℕ) (at next running : ℕ) (inputs : List ℕ) → running ≡ get_or inputs 0 0
-    → Rest l at (output_text false next inputs) l at (joining_text next running (drop 1 inputs))
-gates_start l at next running inputs e =
-    rw e
-    (subst (λ (g : List Gate). Rest l at (output_text false next inputs) l at (answer_text (map gate_line g))) (gates_first next inputs)
-    (rest_start l at (output_text false next inputs)))
+-- the first input, and those behind it
+pub first_and_rest : (l : List ℕ) → 1 ≤ length l → l ≡ get_or l 0 0 ∷ take (length l - 1) (drop 1 l)
+first_and_rest [] h = absurd (let z : ⊥ = omega arith in z)
+first_and_rest (v ∷ l) h = ap (λ (r : List ℕ). v ∷ r) (sym (take_all (length (v ∷ l) - 1) l (omega arith)))
 
-module _ {l₀ l whole : List ℕ} {at₀ place : ℕ} (next running : ℕ) (inputs : List ℕ) (k : ℕ) (r : Rest l₀ at₀ whole l place (joining_text next running (drop k inputs))) where
-  pub gates_room : k < length inputs → at₀ + length whole ≤ length l₀ → place + 13 ≤ length l
+-- what is left to write, before the first gate, after a gate, and after the last
+pub gates_start : (w : Writer) (next first : ℕ) (inputs rest : List ℕ) → inputs ≡ first ∷ rest
+    → Left w (output_text Gates next inputs) w (joining_text (next + 0) first (drop 0 rest))
+unfolding gates_of joining answer_text
+gates_start w next first inputs rest e = rw (e, add-zero next) (left_start w (joining_text next first rest))
+
+-- no input, no gate
+pub gates_none : (w : Writer) (next : ℕ) (inputs : List ℕ) → length inputs ≡ 0 → Wrote w w (output_text Gates next inputs)
+unfolding gates_of answer_text
+gates_none w next [] e = left_end (left_start w [])
+gates_none w next (v ∷ l) e = absurd (let z : ⊥ = omega arith in z)
+
+module _ {w₀ w : Writer} {whole : List ℕ} (next running : ℕ) (inputs : List ℕ) (k : ℕ) (r : Left w₀ whole w (joining_text (next + k) running (drop k inputs))) where
+  pub gates_room : k < length inputs → w₀.at + length whole ≤ length w₀.space.now → w.at + 13 ≤ length w.space.now
   gates_room h u =
       let line = line_text (running ∷ get_or inputs k 0 ∷ []) in
       omega (
         arith,
-        r.place,
-        r.long,
-        ap length (joining_next next running inputs k h),
-        length-append line (joining_text (next + 1) next (drop (k + 1) inputs)),
+        left_room u r,
+        ap length (joining_next (next + k) running inputs k h),
+        length-append line (joining_text (next + k + 1) (next + k) (drop (k + 1) inputs)),
         length_line (running ∷ get_or inputs k 0 ∷ []),
       )
 
-  pub gates_step : {l' : List ℕ} {place' input : ℕ} → k < length inputs → input ≡ get_or inputs k 0
-      → Put l l' place (line_text (running ∷ input ∷ [])) place' → Rest l₀ at₀ whole l' place' (joining_text (next + 1) next (drop (k + 1) inputs))
+  pub gates_step : {w' : Writer} {input : ℕ} → k < length inputs → input ≡ get_or inputs k 0
+      → Wrote w w' (line_text (running ∷ input ∷ [])) → Left w₀ whole w' (joining_text (next + (k + 1)) (next + k) (drop (k + 1) inputs))
   gates_step h e p =
-      rest_step (line_text (running ∷ get_or inputs k 0 ∷ [])) (joining_text (next + 1) next (drop (k + 1) inputs))
-      (rw (joining_next next running inputs k h) at r) (rw e at p)
+      let number : next + k + 1 ≡ next + (k + 1) = omega arith in
+      rw (← number)
+      (left_step (line_text (running ∷ get_or inputs k 0 ∷ [])) (joining_text (next + k + 1) (next + k) (drop (k + 1) inputs))
+      (rw (joining_next (next + k) running inputs k h) at r) (rw e at p))
 
-  pub gates_end : length inputs ≤ k → Put l₀ l at₀ whole place
-  gates_end h = rest_end (rw (joining_end next running inputs k h) at r)
+  pub gates_end : length inputs ≤ k → Wrote w₀ w whole
+  gates_end h = left_end (rw (joining_end (next + k) running inputs k h) at r)
 
 -- ---- the output bits, one by one
 
 -- one output bit is written
-pub outputs_next : (carriers : Bool) (next : ℕ) (outs : List (List ℕ)) (o : ℕ) → o < length outs
-    → output_texts carriers next (drop o outs) ≡ output_text carriers next (get_or outs o []) ++ output_texts carriers (next + (length (get_or outs o []) - 1)) (drop (o + 1) outs)
+pub outputs_next : (part : Part) (next : ℕ) (outs : List (List ℕ)) (o : ℕ) → o < length outs
+    → output_texts part next (drop o outs) ≡ output_text part next (get_or outs o []) ++ output_texts part (next + (length (get_or outs o []) - 1)) (drop (o + 1) outs)
 unfolding output_texts
-outputs_next carriers next outs o h = rw (drop-cons outs o [] h, add-one o)
+outputs_next part next outs o h = rw (drop-cons outs o [] h, add-one o)
 
-pub outputs_end : (carriers : Bool) (next : ℕ) (outs : List (List ℕ)) (o : ℕ) → length outs ≤ o → output_texts carriers next (drop o outs) ≡ []
+pub outputs_end : (part : Part) (next : ℕ) (outs : List (List ℕ)) (o : ℕ) → length outs ≤ o → output_texts part next (drop o outs) ≡ []
 unfolding output_texts
-outputs_end carriers next outs o h = rw (drop_of_length-le outs h)
+outputs_end part next outs o h = rw (drop_of_length-le outs h)
 
 -- what is left to write, after an output bit, and after the last
-module _ {l₀ l whole : List ℕ} {at₀ place : ℕ} (carriers : Bool) (next : ℕ) (outs : List (List ℕ)) (o : ℕ) (r : Rest l₀ at₀ whole l place (output_texts carriers next (drop o outs))) where
-  pub outputs_room : o < length outs → at₀ + length whole ≤ length l₀ → place + length (output_text carriers next (get_or outs o [])) ≤ length l
+module _ {w₀ w : Writer} {whole : List ℕ} (part : Part) (next : ℕ) (outs : List (List ℕ)) (o : ℕ) (r : Left w₀ whole w (output_texts part next (drop o outs))) where
+  pub outputs_room : o < length outs → w₀.at + length whole ≤ length w₀.space.now → w.at + length (output_text part next (get_or outs o [])) ≤ length w.space.now
   outputs_room h u =
       omega (
         arith,
-        r.place,
-        r.long,
-        ap length (outputs_next carriers next outs o h),
-        length-append (output_text carriers next (get_or outs o [])) (output_texts carriers (next + (length (get_or outs o []) - 1)) (drop (o + 1) outs)),
+        left_room u r,
+        ap length (outputs_next part next outs o h),
+        length-append (output_text part next (get_or outs o [])) (output_texts part (next + (length (get_or outs o []) - 1)) (drop (o + 1) outs)),
       )
 
-  pub outputs_step : {l' inputs : List ℕ} {place' more : ℕ} → o < length outs → inputs ≡ get_or outs o [] → more ≡ length (get_or outs o []) - 1
-      → Put l l' place (output_text carriers next inputs) place' → Rest l₀ at₀ whole l' place' (output_texts carriers (next + more) (drop (o + 1) outs))
+  pub outputs_step : {w' : Writer} {inputs : List ℕ} {more : ℕ} → o < length outs → inputs ≡ get_or outs o [] → more ≡ length (get_or outs o []) - 1
+      → Wrote w w' (output_text part next inputs) → Left w₀ whole w' (output_texts part (next + more) (drop (o + 1) outs))
   outputs_step h e m p =
       rw m
-      (rest_step (output_text carriers next (get_or outs o [])) (output_texts carriers (next + (length (get_or outs o []) - 1)) (drop (o + 1) outs))
-      (rw (outputs_next carriers next outs o h) at r) (rw e at p))
+      (left_step (output_text part next (get_or outs o [])) (output_texts part (next + (length (get_or outs o []) - 1)) (drop (o + 1) outs))
+      (rw (outputs_next part next outs o h) at r) (rw e at p))
 
-  pub outputs_finish : length outs ≤ o → Put l₀ l at₀ whole place
-  outputs_finish h = rest_end (rw (outputs_end carriers next outs o h) at r)
+  pub outputs_finish : length outs ≤ o → Wrote w₀ w whole
+  outputs_finish h = left_end (rw (outputs_end part next outs o h) at r)
 
 -- together they are the gates' lines, and the carriers'
-gates_text : (next : ℕ) (outs : List (List ℕ)) → output_texts false next outs ≡ answer_text (map gate_line (gates_from next outs))
+gates_text : (next : ℕ) (outs : List (List ℕ)) → output_texts Gates next outs ≡ answer_text (map gate_line (gates_from next outs))
 unfolding output_texts gates_from answer_text
 gates_text next [] = refl
 gates_text next (l ∷ outs) =
@@ -147,7 +125,7 @@ gates_text next (l ∷ outs) =
     ∙ sym (answer_append (map gate_line (gates_of next l)) (map gate_line (gates_from (next + length (gates_of next l)) outs)))
     ∙ ap answer_text (sym (map-append gate_line (gates_of next l) (gates_from (next + length (gates_of next l)) outs)))
 
-carriers_text : (next : ℕ) (outs : List (List ℕ)) → output_texts true next outs ≡ answer_text (map carrier_line (carriers_from next outs))
+carriers_text : (next : ℕ) (outs : List (List ℕ)) → output_texts Carrier next outs ≡ answer_text (map carrier_line (carriers_from next outs))
 unfolding output_texts carriers_from answer_text
 carriers_text next [] = refl
 carriers_text next (l ∷ outs) =
@@ -159,7 +137,7 @@ carriers_text next (l ∷ outs) =
 pub gate_lines_text : (p n : ℕ) (f : ℕ → ℕ → ℕ)
     → answer_text (gate_lines p n f)
     ≡ line_text (0 ∷ length (gates_of_matrix p n f) ∷ [])
-    ++ (output_texts false (n * degree p) (outputs p n f) ++ output_texts true (n * degree p) (outputs p n f))
+    ++ (output_texts Gates (n * degree p) (outputs p n f) ++ output_texts Carrier (n * degree p) (outputs p n f))
 unfolding gate_lines answer_text gates_of_matrix carriers_of_matrix
 gate_lines_text p n f =
     ap (λ (x : List ℕ). line_text (0 ∷ length (gates_of_matrix p n f) ∷ []) ++ x)
@@ -182,12 +160,12 @@ length_carrier_lines (c ∷ l) =
     omega (arith, length-append (line_text (carrier_line c)) (answer_text (map carrier_line l)), length_line (carrier_line c), length_carrier_lines l)
 
 -- of the gates and of the carriers of a matrix
-pub length_gates_text : (p n : ℕ) (f : ℕ → ℕ → ℕ) → length (output_texts false (n * degree p) (outputs p n f)) ≡ 13 * length (gates_of_matrix p n f)
+pub length_gates_text : (p n : ℕ) (f : ℕ → ℕ → ℕ) → length (output_texts Gates (n * degree p) (outputs p n f)) ≡ 13 * length (gates_of_matrix p n f)
 unfolding gates_of_matrix
 length_gates_text p n f = ap length (gates_text (n * degree p) (outputs p n f)) ∙ length_gate_lines (gates_from (n * degree p) (outputs p n f))
 
 module _ (p n : ℕ) (f : ℕ → ℕ → ℕ) (h : Modulus p) (u : n ≤ 8) (small : (i j : ℕ) → i < n → j < n → f i j < 2 ^ degree p) where
-  pub length_carriers_text : length (output_texts true (n * degree p) (outputs p n f)) ≡ 7 * (n * degree p)
+  pub length_carriers_text : length (output_texts Carrier (n * degree p) (outputs p n f)) ≡ 7 * (n * degree p)
   unfolding carriers_of_matrix
   length_carriers_text =
       ap length (carriers_text (n * degree p) (outputs p n f))
@@ -201,8 +179,8 @@ module _ (p n : ℕ) (f : ℕ → ℕ → ℕ) (h : Modulus p) (u : n ≤ 8) (sm
         arith,
         ap length (gate_lines_text p n f),
         length-append (line_text (0 ∷ length (gates_of_matrix p n f) ∷ []))
-            (output_texts false (n * degree p) (outputs p n f) ++ output_texts true (n * degree p) (outputs p n f)),
-        length-append (output_texts false (n * degree p) (outputs p n f)) (output_texts true (n * degree p) (outputs p n f)),
+            (output_texts Gates (n * degree p) (outputs p n f) ++ output_texts Carrier (n * degree p) (outputs p n f)),
+        length-append (output_texts Gates (n * degree p) (outputs p n f)) (output_texts Carrier (n * degree p) (outputs p n f)),
         length_line (0 ∷ length (gates_of_matrix p n f) ∷ []),
         length_gates_text p n f,
         length_carriers_text,
@@ -217,10 +195,3 @@ module _ (p n : ℕ) (f : ℕ → ℕ → ℕ) (h : Modulus p) (u : n ≤ 8) (sm
 pub gate_lines_cong : (p n : ℕ) (f g : ℕ → ℕ → ℕ) → Modulus p → ((i j : ℕ) → i < n → j < n → f i j ≡ g i j) → gate_lines p n f ≡ gate_lines p n g
 unfolding gate_lines
 gate_lines_cong p n f g h e = rw (gates_same p n h f g e, carriers_same p n h f g e)
-
--- the lines of what is asked of a matrix, from the values as they are read
-pub lines_read : (gates : Bool) (p : ℕ) (s : List ℕ) (n count : ℕ) → Modulus p → count ≡ n * n
-    → matrix_lines gates p n (λ i j. value_at s (i * n + j)) ≡ matrix_lines gates p n (entries_of n (values_from s 0 count))
-lines_read true p s n count h e =
-    rw e (sym (gate_lines_cong p n (entries_of n (values_from s 0 (n * n))) (λ i j. value_at s (i * n + j)) h (entries_read s n)))
-lines_read false p s n count h e = check_read p s n count e

@@ -9,13 +9,11 @@ use native.Mathlib.Numerals.{add-one}
 use native.Mathlib.Omega.{arith}
 use native.Mathlib.Decide.{dec_lt}
 use borrow.Author.Tests.{lt-ltb}
-use lib.ListN.{get_or, length, take, set, replicate, length-take, get_or-eq_default}
+use lib.ListN.{get_or, length, take, replicate, length-take, get_or-eq_default}
 use lib.Seq.{take_at, get_or-take, ext_get_or}
 use Rattle.refusal.specs.Refusals.{number_of, Fault, fault, first_number, Answer, answer, answer_after}
 use Rattle.refusal.specs.declared.Refusal.{Refusal}
-use Rattle.refusal.specs.declared.Outcome.TheVariants.{Value, Refused}
 use Rattle.refusal.proofs.Faults.{numbered, number_not_zero, first_passed, after_none, after_number, after_number_is, first_parts, first_behind}
-use Rattle.algebra.proofs.Words.{stored_more}
 use Rattle.field.specs.Polynomial.{Modulus, degree}
 use Rattle.field.specs.Faults.{polynomial_faults}
 use Rattle.field.proofs.Calls.{elements_most}
@@ -31,7 +29,8 @@ use Rattle.rows.proofs.Rows.{mem_rows, sorted_rows, get_d_mem}
 use Rattle.rows.proofs.Lightest.{row_sorted}
 use Rattle.cuts.proofs.Families.{family_most, family_least}
 use Rattle.rows.specs.Candidates.{some_too_large, some_bad}
-use Rattle.search.specs.Answer.{is_wrong_order_for, is_wrong_count_for, brief_faults, is_none, search_faults, RowFound, no_row, row_found, search_answer, says_outcome}
+use Rattle.search.specs.Answer.{is_wrong_order_for, is_wrong_count_for, brief_faults, is_none, search_faults, RowFound, no_row, row_found, search_answer, row_told}
+use Rattle.search.specs.declared.LightestRow.{LightestRow}
 use Rattle.lightest.proofs.LetterCounts.{member_nonzero}
 use Rattle.search.proofs.Refusals.{order_of_holds, brief_passed, brief_parts, count_four, count_eight, circulant_count_other}
 use Rattle.text.specs.Text.{SixDigits}
@@ -50,12 +49,13 @@ values_more s j (suc n) =
     let place : suc j + n ≡ j + suc n = omega arith in
     ap (λ (l : List ℕ). value_at s j ∷ l) (values_more s (suc j) n ∙ ap (λ (k : ℕ). values_from s (suc j) n ++ (value_at s k ∷ [])) place)
 
--- a value is stored behind those before it, with zeros behind it
-pub values_stored : (s : List ℕ) (i : ℕ) (l : List ℕ) (v : ℕ) → i < 256 → l ≡ values_from s 0 i ++ replicate (256 - i) 0 → v ≡ value_at s i
-    → set l i v ≡ values_from s 0 (i + 1) ++ replicate (256 - (i + 1)) 0
-values_stored s i l v h e d =
-    let next : values_from s 0 (i + 1) ≡ values_from s 0 i ++ (v ∷ []) = rw (add-one i, values_more s 0 i, zero-add i, d) refl in
-    stored_more 0 256 i (values_from s 0 i) (values_from s 0 (i + 1)) l v h (length_values_from s 0 i) next e
+-- a value is stored behind those before it
+pub values_stored : (s : List ℕ) (i : ℕ) (l : List ℕ) (v : ℕ) → l ≡ values_from s 0 i → v ≡ value_at s i → l ++ (v ∷ []) ≡ values_from s 0 (i + 1)
+values_stored s i l v e d = rw (add-one i, values_more s 0 i, zero-add i, e, d) refl
+
+pub values_none : (s : List ℕ) → [] ≡ values_from s 0 0
+unfolding values_from
+values_none s = refl
 
 -- of more than 255 values none is looked at: the order or the count is wrong
 abbrev many_faults : Family → ℕ → List Fault
@@ -169,32 +169,32 @@ module _ (family : Family) (p n : ℕ) (values : List ℕ) where
   unfolding search_answer
   says_number a e = sym (ap (λ (x : Answer RowFound). x.number) e ∙ after_number_is no_row _ (search_faults family p n values (lightest_row (shape_of family) p n values)))
 
-  pub search_refused : (r : Refusal) (row : List ℕ) → says_outcome (Refused r) row ≡ search_answer family p n values → answer (number_of r) [] ≡ due_to (search family) (request p n values)
+  pub search_refused : (r : Refusal) → answer (number_of r) no_row ≡ search_answer family p n values → answer (number_of r) [] ≡ due_to (search family) (request p n values)
   unfolding due_to search
-  search_refused r row e = after_number [] _ (search_faults family p n values (lightest_row (shape_of family) p n values)) (number_of r) (says_number _ e) (number_not_zero r)
+  search_refused r e = after_number [] _ (search_faults family p n values (lightest_row (shape_of family) p n values)) (number_of r) (says_number _ e) (number_not_zero r)
 
-  module _ (sum : ℕ) (row : List ℕ) (e : says_outcome (Value sum) row ≡ search_answer family p n values) where
+  module _ (r : LightestRow) (e : answer 0 (row_told r) ≡ search_answer family p n values) where
     pub search_passed : Accepted family p n values
     search_passed = search_accepted family p n values (says_number _ e)
 
     -- the row that is told is the lightest, filled up
-    told : answer 0 (record { sum = sum; row = row }) ≡ answer 0 (row_found p n (found search_passed.row))
+    told : answer 0 (row_told r) ≡ answer 0 (row_found p n (found search_passed.row))
     unfolding search_answer
     told =
         e
         ∙ sym (after_none no_row _ (search_faults family p n values (lightest_row (shape_of family) p n values)) (says_number _ e))
         ∙ ap (λ (b : Best). answer 0 (row_found p n b)) search_passed.lightest
 
-    row_told : take n row ≡ search_passed.row
-    row_told = ap (λ (x : Answer RowFound). take n x.value.row) told ∙ take_at search_passed.row (replicate (8 - n) 0) n search_passed.entries
+    same_row : take n r.row ≡ search_passed.row
+    same_row = ap (λ (x : Answer RowFound). take n x.value.row) told ∙ take_at search_passed.row (replicate (8 - n) 0) n search_passed.entries
 
-    pub sum_told : sum ≡ sum_of p n (take n row)
-    sum_told = ap (λ (x : Answer RowFound). x.value.sum) told ∙ ap (sum_of p n) (sym row_told)
+    pub sum_told : r.sum ≡ sum_of p n (take n r.row)
+    sum_told = ap (λ (x : Answer RowFound). x.value.sum) told ∙ ap (sum_of p n) (sym same_row)
 
-    pub search_told : answer 0 (row_lines p n (take n row)) ≡ due_to (search family) (request p n values)
+    pub search_told : answer 0 (row_lines p n (take n r.row)) ≡ due_to (search family) (request p n values)
     unfolding due_to search
     search_told =
-        ap (λ (l : List ℕ). answer 0 (row_lines p n l)) row_told
+        ap (λ (l : List ℕ). answer 0 (row_lines p n l)) same_row
         ∙ ap (λ (b : Best). answer 0 (best_lines p n b)) (sym search_passed.lightest)
         ∙ after_none [] _ (search_faults family p n values (lightest_row (shape_of family) p n values)) (says_number _ e)
 

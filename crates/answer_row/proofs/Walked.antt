@@ -9,7 +9,6 @@ use lib.ListN.{length, get_or, take, replicate, length-replicate}
 use lib.Seq.{take_at}
 use Rattle.refusal.specs.Refusals.{number_of, fault, first_number, Answer, answer}
 use Rattle.refusal.specs.declared.Refusal.{Refusal}
-use Rattle.refusal.specs.declared.Outcome.TheVariants.{Value, Refused}
 use Rattle.refusal.proofs.Faults.{number_not_zero, after_none, after_number, after_number_is}
 use Rattle.field.specs.Polynomial.{Modulus, degree}
 use Rattle.field.proofs.Calls.{elements_most}
@@ -22,7 +21,7 @@ use Rattle.rows.proofs.Walks.{rows_tried_holds, best_of_tried, tried_word}
 use Rattle.cuts.proofs.Families.{family_most}
 use Rattle.search.specs.Answer.{is_none}
 use Rattle.search.proofs.Refusals.{BriefPassed, brief_passed, brief_parts}
-use Rattle.walk.specs.Answer.{walk_faults, best_count, best_row, WalkFound, no_walk, walk_found, walk_answer, says_walked}
+use Rattle.walk.specs.Answer.{walk_faults, best_count, best_row, WalkFound, no_walk, walk_found, walk_answer}
 use Rattle.walk.proofs.EightSmallest.{bound_most, bound_of_holds}
 use Rattle.text.specs.Text.{SixDigits}
 use Rattle.text.specs.Reading.{values_from}
@@ -79,12 +78,11 @@ module _ (p n : ℕ) (values : List ℕ) (budget : ℕ) where
   says_number a e = sym (ap (λ (x : Answer WalkFound). x.number) e ∙ after_number_is no_walk _ (walk_faults p n values w))
 
   -- it is refused
-  pub walk_refused : (r : Refusal) (tried count bound : ℕ) (row : List ℕ) → says_walked (Refused r) tried count bound row ≡ walk_answer p n values budget
-      → answer (number_of r) [] ≡ due_to walk (request_with p n budget values)
+  pub walk_refused : (r : Refusal) → answer (number_of r) no_walk ≡ walk_answer p n values budget → answer (number_of r) [] ≡ due_to walk (request_with p n budget values)
   unfolding due_to walk
-  walk_refused r tried count bound row e = after_number [] _ (walk_faults p n values w) (number_of r) (says_number _ e) (number_not_zero r)
+  walk_refused r e = after_number [] _ (walk_faults p n values w) (number_of r) (says_number _ e) (number_not_zero r)
 
-  module _ (finished tried count bound : ℕ) (row : List ℕ) (e : says_walked (Value finished) tried count bound row ≡ walk_answer p n values budget) where
+  module _ (t : WalkFound) (e : answer 0 t ≡ walk_answer p n values budget) where
     none : first_number (walk_faults p n values w) ≡ 0
     none = says_number _ e
 
@@ -95,23 +93,23 @@ module _ (p n : ℕ) (values : List ℕ) (budget : ℕ) where
     most : n ≤ 8
     most = family_most Hadamard n walk_passed.order
 
-    told : answer 0 (record { finished = finished; tried = tried; count = count; bound = bound; row = row }) ≡ answer 0 (walk_found p n values w)
+    told : answer 0 t ≡ answer 0 (walk_found p n values w)
     unfolding walk_answer
     told = e ∙ sym (after_none no_walk _ (walk_faults p n values w) none)
 
     -- its lines are those of the numbers told
-    pub lines_told : (0 ∷ finished ∷ tried ∷ count ∷ bound ∷ []) ∷ take n row ∷ [] ≡ walk_lines p n values w
+    lines_told : (0 ∷ t.finished ∷ t.tried ∷ t.count ∷ t.bound ∷ []) ∷ take n t.row ∷ [] ≡ walk_lines p n values w
     unfolding walk_found walk_lines
     lines_told =
         ap (λ (x : Answer WalkFound). (0 ∷ x.value.finished ∷ x.value.tried ∷ x.value.count ∷ x.value.bound ∷ []) ∷ take n x.value.row ∷ []) told
         ∙ ap (λ (l : List ℕ). (0 ∷ cond w.finished 1 0 ∷ w.rows_tried ∷ best_count p n w.best ∷ lower_bound p n values ∷ []) ∷ l ∷ [])
         (take_at (best_row n w.best) (replicate (8 - n) 0) n (row_told p n values budget walk_passed.modulus w.best refl).0)
 
-    pub walk_told : answer 0 ((0 ∷ finished ∷ tried ∷ count ∷ bound ∷ []) ∷ take n row ∷ []) ≡ due_to walk (request_with p n budget values)
+    pub walk_due : answer 0 ((0 ∷ t.finished ∷ t.tried ∷ t.count ∷ t.bound ∷ []) ∷ take n t.row ∷ []) ≡ due_to walk (request_with p n budget values)
     unfolding due_to walk
-    walk_told = ap (answer 0) lines_told ∙ after_none [] _ (walk_faults p n values w) none
+    walk_due = ap (answer 0) lines_told ∙ after_none [] _ (walk_faults p n values w) none
 
-    pub six_told : budget ≤ 999999 → SixDigits (0 ∷ finished ∷ tried ∷ count ∷ bound ∷ [])
+    pub six_told : budget ≤ 999999 → SixDigits (0 ∷ t.finished ∷ t.tried ∷ t.count ∷ t.bound ∷ [])
     unfolding walk_found
     six_told six =
         subst (λ (x : Answer WalkFound). SixDigits (0 ∷ x.value.finished ∷ x.value.tried ∷ x.value.count ∷ x.value.bound ∷ [])) (sym told)

@@ -3,12 +3,11 @@ use mathlib.Core.Path.{◌≡◌, refl, sym, ap, ◌∙◌}
 use mathlib.Core.Bool.{true}
 use mathlib.Core.List.{List, [], ◌∷◌, ◌++◌, map}
 use Prim.Native.Nat.{ℕ, suc, ◌+◌, ◌-◌, ◌*◌, ◌^◌, ◌≤◌, ◌<◌}
-use native.Mathlib.Nat.{mul-le-mul, le_trans}
+use native.Mathlib.Nat.{mul-le-mul, le_trans, add_assoc}
 use native.Mathlib.Numerals.{add-one}
 use native.Mathlib.Omega.{arith}
 use borrow.Author.Tests.{leb-true, eqb-true}
 use lib.Dec.{lit≤, leb, eqb}
-use lib.Pow.{pow_pos}
 use lib.ListN.{length, length-append, length-drop, get_or, take, drop}
 use lib.Seq.{drop-cons, length-take-le, get_or-take, get_or-drop}
 use Rattle.field.specs.Polynomial.{Modulus, degree, xor_count}
@@ -26,10 +25,6 @@ use Rattle.text.proofs.Lengths.{length_line}
 use Rattle.reply.specs.Due.{survey_line, survey_lines}
 use Rattle.answer_survey.specs.Steps.TableLines.{table_from, lines_from}
 
--- a field has 4 to 256 elements
-pub size_low : (p : ℕ) → Modulus p → 1 ≤ 2 ^ degree p
-size_low p h = pow_pos (degree p)
-
 -- the sum of f at 1, 2, .. n
 unfoldable pub sum_to : (ℕ → ℕ) → ℕ → ℕ
 sum_to f n = total n (λ a. f (suc a))
@@ -38,9 +33,19 @@ sum_to_most : (f : ℕ → ℕ) (n k : ℕ) → ((a : ℕ) → f a ≤ k) → su
 unfolding sum_to
 sum_to_most f n k h = total_le n k (λ a. f (suc a)) (λ a. h (suc a))
 
-pub sum_to_step : (f : ℕ → ℕ) (n : ℕ) → sum_to f (n + 1) ≡ sum_to f n + f (n + 1)
+sum_to_step : (f : ℕ → ℕ) (n : ℕ) → sum_to f (n + 1) ≡ sum_to f n + f (n + 1)
 unfolding sum_to
 sum_to_step f n = total_step n (λ a. f (suc a)) ∙ rw add-one
+
+-- the sum at the numbers below a, and at a
+pub sum_to_next : (f : ℕ → ℕ) (a : ℕ) → 1 ≤ a → sum_to f (a + 1 - 1) ≡ sum_to f (a - 1) + f a
+sum_to_next f a h = go (a - 1) (omega arith)
+  where
+    go : (n : ℕ) → a ≡ n + 1 → sum_to f (a + 1 - 1) ≡ sum_to f (a - 1) + f a
+    go n e =
+        let this : n + 1 + 1 - 1 ≡ n + 1 = omega arith in
+        let before : n + 1 - 1 ≡ n = omega arith in
+        rw (e, this, before) (sum_to_step f n)
 
 -- the square of a count
 abbrev pub square : ℕ → ℕ → ℕ
@@ -124,7 +129,7 @@ table_next i e h l =
     let more : e - i ≡ suc (e - (i + 1)) = omega arith in
     rw (more, drop-cons table i 0 (omega (arith, table_length)), add-one)
 
-length_table : (i e : ℕ) → e ≤ 69 → length (table_from i e) ≡ e - i
+pub length_table : (i e : ℕ) → e ≤ 69 → length (table_from i e) ≡ e - i
 unfolding table_from
 length_table i e l = length-take-le (e - i) (drop i table) (omega (arith, length-drop i table, table_length))
 
@@ -138,13 +143,25 @@ pub length_lines : (i e : ℕ) → e ≤ 69 → length (lines_from i e) ≡ 19 *
 unfolding lines_from
 length_lines i e l = length_each (table_from i e) ∙ ap (λ (k : ℕ). 19 * k) (length_table i e l)
 
-pub lines_next : (i e : ℕ) → i < e → e ≤ 69 → lines_from i e ≡ line_text (survey_line (get_or table i 0)) ++ lines_from (i + 1) e
+lines_next : (i e : ℕ) → i < e → e ≤ 69 → lines_from i e ≡ line_text (survey_line (get_or table i 0)) ++ lines_from (i + 1) e
 unfolding lines_from answer_text
 lines_next i e h l = rw (table_next i e h l)
 
 pub lines_end : (i e : ℕ) → e ≤ i → lines_from i e ≡ []
 unfolding lines_from table_from answer_text
 lines_end i e h = let none : e - i ≡ 0 = omega arith in rw none
+
+-- a place of a part of the table, with `first` places before the part
+pub part_at : (first last i : ℕ) → i < last - first → get_or (table_from first last) i 0 ≡ get_or table (first + i) 0
+unfolding table_from
+part_at first last i h = rw (get_or-take (last - first) (drop first table) i 0 h, get_or-drop first table i 0)
+
+pub part_modulus : (first last i : ℕ) → last ≤ 69 → i < last - first → Modulus (get_or (table_from first last) i 0)
+part_modulus first last i l h = rw (part_at first last i h) (table_modulus (first + i) (omega arith))
+
+pub part_next : (first last i : ℕ) → last ≤ 69 → i < last - first
+    → lines_from (first + i) last ≡ line_text (survey_line (get_or (table_from first last) i 0)) ++ lines_from (first + (i + 1)) last
+part_next first last i l h = rw (part_at first last i h, ← add_assoc first i 1) (lines_next (first + i) last (omega arith) l)
 
 -- the whole survey: line one, and the lines behind it
 pub survey_text : (m : ℕ) → 2 ≤ m → m ≤ 8
@@ -174,5 +191,4 @@ polynomials_modulus m l u i h =
     let first = start_of m in
     let last = start_of (m + 1) in
     let most = start_most (m + 1) (omega arith) in
-    let inside : i < last - first = rw (polynomials_are m l u, length_table first last most) at h in
-    rw (polynomials_are m l u, get_or-take (last - first) (drop first table) i 0 inside, get_or-drop first table i 0) (table_modulus (first + i) (omega arith))
+    rw (polynomials_are m l u) (part_modulus first last i most (rw (polynomials_are m l u, length_table first last most) at h))

@@ -1,30 +1,23 @@
 // Kind 3: the polynomials of a degree.
 #![tactic(auto)]
 
-ghost use Rattle.std.specs.Prelude.{◌≡◌, ◌||◌, [], ◌∷◌, ◌+◌, ◌-◌, ◌*◌, ◌^◌, ◌≤◌, ltb, length};
+ghost use Rattle.std.specs.Prelude.{◌≡◌, ◌||◌, [], ◌∷◌, ◌+◌, ◌-◌, ◌*◌, ◌≤◌, ltb, length};
 ghost use Rattle.refusal.specs.Refusals.{answer};
-ghost use Rattle.field.specs.Polynomial.{Modulus, degree};
 ghost use Rattle.field.specs.Steps.{start_of};
 ghost use Rattle.text.specs.Text.{line_text};
-ghost use Rattle.text.specs.Writing.{Put};
+ghost use Rattle.text.specs.Writing.{Wrote};
 ghost use Rattle.text.specs.Reading.{values_from};
 ghost use Rattle.reply.specs.Due.{request, survey_line, survey_lines, survey, due_to};
-ghost use Rattle.reply.specs.Answered.{Replied};
+ghost use Rattle.reply.specs.Answered.{RepliedBy};
 ghost use Rattle.answer_survey.specs.Steps.TableLines.{lines_from};
 
+use field::table::Field;
 use refusal::Refusal;
-use reply::{Reply, refuse, too_short};
+use reply::refuse;
+use text::Writer;
 
 // Where the polynomials of each degree begin in the table, and where the last ones end.
 const STARTS: [usize; 10] = [0, 0, 0, 1, 3, 6, 12, 21, 39, 69];
-
-// How many nonzero elements the field has.
-fn nonzero(p: u16) -> usize
-    requires { Modulus p }
-    ensures { result ≡ 2 ^ degree p - 1 }
-{
-    (1 << field::degree(p)) - 1
-}
 
 // The sum of the XOR counts of the nonzero elements, and the sum of their squares.
 #[derive(Clone, Copy)]
@@ -33,30 +26,26 @@ struct Sums {
     squares: u32,
 }
 
-fn sums_of(p: u16) -> Sums
-    requires { Modulus p }
-    ensures { p ∷ result.counts ∷ result.squares ∷ [] ≡ survey_line p }
+fn sums_of(field: Field) -> Sums
+    ensures { field.polynomial ∷ result.counts ∷ result.squares ∷ [] ≡ survey_line field.polynomial }
 {
-    let last = nonzero(p);
-    let mut counts: u32 = 0;
-    let mut squares: u32 = 0;
-    let mut a = 0usize;
-    while a < last {
-        a += 1;
-        let count = field::xor_count(p, a as u8) as u32;
+    let mut counts = 0;
+    let mut squares = 0;
+    for a in 1..field.size() {
+        let count = u32::from(field.xor_count(a as u8));
         counts += count;
         squares += count * count;
     }
     Sums { counts, squares }
 }
 
-// Writes the line of a polynomial at place `at`. The result is the place behind it.
-fn put_polynomial(space: &mut [u8], at: usize, p: u16) -> usize
-    requires { Modulus p × (at + 19 ≤ length space.old) }
-    ensures { Put space.old space.new at (line_text (survey_line p)) result }
+// Writes the line of a polynomial.
+fn put_polynomial(writer: &mut Writer, field: Field)
+    requires { writer.old.at + 19 ≤ length writer.old.space.now }
+    ensures { Wrote writer.old writer.new (line_text (survey_line field.polynomial)) }
 {
-    let found = sums_of(p);
-    text::put_line(space, at, &[p as u32, found.counts, found.squares])
+    let sums = sums_of(field);
+    writer.put_line(&[u32::from(field.polynomial), sums.counts, sums.squares]);
 }
 
 // Where the polynomials of degree m begin in the table.
@@ -68,36 +57,33 @@ fn start_of(m: usize) -> usize
 }
 
 // Writes the lines of the polynomials at the places from `first` to `last` of the table, the last one not among them.
-fn put_polynomials(space: &mut [u8], at: usize, first: usize, last: usize) -> usize
-    requires { (first ≤ last) × (last ≤ 69) × (at + 19 * (last - first) ≤ length space.old) }
-    ensures { Put space.old space.new at (lines_from first last) result }
+fn put_polynomials(writer: &mut Writer, first: usize, last: usize)
+    requires { (first ≤ last) × (last ≤ 69) × (writer.old.at + 19 * (last - first) ≤ length writer.old.space.now) }
+    ensures { Wrote writer.old writer.new (lines_from first last) }
 {
-    let mut next = at;
-    let mut i = first;
-    while i < last {
-        next = put_polynomial(space, next, field::TABLE[i]);
-        i += 1;
+    for polynomial in &field::TABLE[first..last] {
+        let field = Field {
+            polynomial: *polynomial,
+        };
+        put_polynomial(writer, field);
     }
-    next
 }
 
 // Writes the survey of degree m, if it fits.
-fn put_survey(space: &mut [u8], m: usize) -> Reply
+fn put_survey(space: &mut [u8], m: usize) -> Result<usize, Refusal>
     requires { (2 ≤ m) × (m ≤ 8) }
-    ensures { Replied (answer 0 (survey_lines m)) space.old space.new result.number result.length }
+    ensures { RepliedBy (answer 0 (survey_lines m)) space.old space.new result }
 {
     let first = start_of(m);
     let last = start_of(m + 1);
     let count = last - first;
     if space.len() < 13 + 19 * count {
-        return too_short();
+        return Err(Refusal::ShortSpace);
     }
-    let next = text::put_line(space, 0, &[0, count as u32]);
-    let end = put_polynomials(space, next, first, last);
-    Reply {
-        number: 0,
-        length: end,
-    }
+    let mut writer = Writer { space, at: 0 };
+    writer.put_line(&[0, count as u32]);
+    put_polynomials(&mut writer, first, last);
+    Ok(writer.at)
 }
 
 // Whether the degree is not from 2 to 8.
@@ -108,8 +94,14 @@ fn wrong_degree(m: u32) -> bool
 }
 
 // The survey of degree m: order and count are to be 0.
-pub fn survey(part: &[u8], space: &mut [u8], m: u32, order: u32, count: u32) -> Reply
-    ensures { Replied (due_to survey (request m order (values_from part.now 0 count))) space.old space.new result.number result.length }
+pub fn survey(
+    part: &[u8],
+    space: &mut [u8],
+    m: u32,
+    order: u32,
+    count: u32,
+) -> Result<usize, Refusal>
+    ensures { RepliedBy (due_to survey (request m order (values_from part.now 0 count))) space.old space.new result }
 {
     if wrong_degree(m) {
         return refuse(space, Refusal::PolynomialRange);

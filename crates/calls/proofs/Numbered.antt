@@ -2,16 +2,12 @@
 use mathlib.Core.Path.{◌≡◌, refl, sym, ap, ◌∙◌}
 use mathlib.Core.Logic.{⊎_elim}
 use mathlib.Core.List.{List, [], ◌∷◌, ◌++◌, map}
-use Prim.Native.Nat.{ℕ, zero, suc, ◌+◌, ◌%◌, ◌^◌, ◌≤◌, ◌<◌}
+use Prim.Native.Nat.{ℕ, zero, suc, ◌+◌, ◌≤◌, ◌<◌}
 use native.Mathlib.Omega.{arith}
 use lib.ListN.{length, get_or, get_or-eq_default}
-use Rattle.refusal.specs.Refusals.{Answer, answer_of}
-use Rattle.refusal.specs.declared.Outcome.{Outcome}
-use Rattle.refusal.specs.declared.Outcome.TheVariants.{Value, Refused}
+use Rattle.refusal.specs.Refusals.{Answer}
 use Rattle.algebra.proofs.Sums.{le_or_lt}
-use Rattle.search.specs.Answer.{says_outcome}
-use Rattle.walk.specs.Answer.{says_walked}
-use Rattle.calls.specs.Replies.{value_reply, search_reply, walk_reply, no_answer, reply_to}
+use Rattle.calls.specs.Replies.{value_reply, no_answer, reply_to}
 
 -- what stands at the number that was found
 pub at_number : {A : Type 0} (l : List A) (d : A) {call k : ℕ} {v : A} → call ≡ k → v ≡ get_or l k d → v ≡ get_or l call d
@@ -26,17 +22,6 @@ unnumbered l d (suc n) e h = sym (get_or-eq_default l d {n = suc n} (h (omega ar
 pub five_more : (k call : ℕ) → k < call
     → (call ≡ k + 1 → ⊥) → (call ≡ k + 2 → ⊥) → (call ≡ k + 3 → ⊥) → (call ≡ k + 4 → ⊥) → (call ≡ k + 5 → ⊥) → k + 5 < call
 five_more k call l a b c d e = omega arith
-
--- what the outcome and the row of a search say
-pub search_told : (o : Outcome) (row : List ℕ) → (answer_of o).number ∷ (answer_of o).value ∷ 0 ∷ 0 ∷ 0 ∷ row ≡ search_reply (says_outcome o row)
-search_told (Value v) row = refl
-search_told (Refused r) row = refl
-
--- what the outcome and the numbers of a walk say
-pub walk_told : (o : Outcome) (tried count bound : ℕ) (row : List ℕ)
-    → (answer_of o).number ∷ (answer_of o).value ∷ tried % 2 ^ 32 ∷ count ∷ bound ∷ row ≡ walk_reply (says_walked o tried count bound row)
-walk_told (Value v) tried count bound row = refl
-walk_told (Refused r) tried count bound row = refl
 
 -- a number that none of the replies behind the values has
 pub values_kept : (l : List (Answer ℕ)) (more : List (List ℕ)) (call : ℕ) → ((k : ℕ) → k < length more → call ≡ length l + k → ⊥)

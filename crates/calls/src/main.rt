@@ -2,25 +2,35 @@
 // each answer on standard output.
 #![tactic(auto)]
 
-ghost use Rattle.std.specs.Prelude.{◌≡◌, ◌∷◌, ◌++◌, ◌+◌, ◌≤◌, ◌<◌, min, length, take, drop, replicate, get_or};
-ghost use Rattle.refusal.specs.Refusals.{answer_of};
+ghost use Rattle.std.specs.Prelude.{◌≡◌, ◌∷◌, ◌++◌, ◌+◌, ◌≤◌, length, take, drop, replicate, get_or};
+ghost use Rattle.refusal.specs.Refusals.{number_of, answer_of};
 ghost use Rattle.checks.specs.Answers.{words_of, checked_of};
 ghost use Rattle.search.specs.Answer.{says_search};
 ghost use Rattle.walk.specs.Answer.{says_walk};
-ghost use Rattle.calls.specs.Records.{four_bytes, words_at, matrix_in, budget_in, byte_of, as_bytes};
+ghost use Rattle.calls.specs.Records.{four_bytes, words_at, matrix_in, budget_in, as_bytes};
 ghost use Rattle.calls.specs.Replies.{value_reply, words_reply, check_reply, search_reply, walk_reply, no_answer, value_answers, reply_to, reply_of};
 
-use refusal::Outcome;
+use checks::Found;
+use refusal::Refusal;
+use rows::Family;
+use search::LightestRow;
 use std::io;
 use std::io::Write;
+use walk::{CountedRow, Told};
 
 // ---- a record
 
-// A byte as a number.
-fn wide(byte: u8) -> u32
-    ensures { (result ≡ byte) × (result ≤ 255) }
-{
-    byte as u32
+// What a record asks for: the number of a call, 1 to 16, the polynomial, the order or the first value, the count or the second value, a matrix, the
+// input or the row whose count is asked for, and the budget of a walk.
+#[derive(Clone, Copy)]
+struct Call {
+    number: u32,
+    p: u32,
+    a: u32,
+    b: u32,
+    m: [[u8; 8]; 8],
+    x: [u8; 8],
+    budget: u64,
 }
 
 // The number in the four bytes from place `at` on.
@@ -28,8 +38,7 @@ fn number_at(bytes: &[u8], at: usize) -> u32
     requires { at + 4 ≤ length bytes.now }
     ensures { result ≡ four_bytes bytes.now at }
 {
-    let low = wide(bytes[at]) + wide(bytes[at + 1]) * 256;
-    low + wide(bytes[at + 2]) * 65536 + wide(bytes[at + 3]) * 16777216
+    u32::from_le_bytes([bytes[at], bytes[at + 1], bytes[at + 2], bytes[at + 3]])
 }
 
 // Eight bytes from place `at` on.
@@ -38,11 +47,7 @@ fn words_at(bytes: &[u8], at: usize) -> [u8; 8]
     ensures { result ≡ words_at bytes.now at }
 {
     let mut words = [0u8; 8];
-    let mut i = 0;
-    while i < 8 {
-        words[i] = bytes[at + i];
-        i += 1;
-    }
+    words.copy_from_slice(&bytes[at..at + 8]);
     words
 }
 
@@ -51,16 +56,11 @@ fn matrix_of(bytes: &[u8]) -> [[u8; 8]; 8]
     requires { 80 ≤ length bytes.now }
     ensures { result ≡ matrix_in bytes.now }
 {
-    [
-        words_at(bytes, 16),
-        words_at(bytes, 24),
-        words_at(bytes, 32),
-        words_at(bytes, 40),
-        words_at(bytes, 48),
-        words_at(bytes, 56),
-        words_at(bytes, 64),
-        words_at(bytes, 72),
-    ]
+    let mut m = [[0; 8]; 8];
+    for i in 0..8 {
+        m[i] = words_at(bytes, 16 + 8 * i);
+    }
+    m
 }
 
 // The bytes of the matrix of a record as numbers, and zeros behind them.
@@ -69,10 +69,8 @@ fn widened(bytes: &[u8]) -> [u32; 256]
     ensures { result ≡ take 64 (drop 16 bytes.now) ++ replicate 192 0 }
 {
     let mut values = [0u32; 256];
-    let mut i = 0;
-    while i < 64 {
-        values[i] = wide(bytes[16 + i]);
-        i += 1;
+    for i in 0..64 {
+        values[i] = u32::from(bytes[16 + i]);
     }
     values
 }
@@ -82,128 +80,96 @@ fn budget_of(bytes: &[u8]) -> u64
     requires { 88 ≤ length bytes.now }
     ensures { result ≡ budget_in bytes.now }
 {
-    let low = number_at(bytes, 80);
-    let high = number_at(bytes, 84);
-    low as u64 + (high as u64) * 4294967296
+    u64::from(number_at(bytes, 80)) + u64::from(number_at(bytes, 84)) * 4294967296
 }
 
 // ---- what a call yields
 
-// The number that is returned.
-fn number_in(outcome: Outcome) -> u32
-    ensures { result ≡ (answer_of outcome).number }
+// A reply: the number that is returned, four values and eight words.
+fn reply_with(number: u32, values: [u32; 4], words: [u8; 8]) -> [u32; 13]
+    ensures { result ≡ number ∷ values ++ words }
 {
-    match outcome {
-        Outcome::Value(_) => 0,
-        Outcome::Refused(reason) => refusal::number_of(reason),
+    let mut reply = [
+        number, values[0], values[1], values[2], values[3], 0, 0, 0, 0, 0, 0, 0, 0,
+    ];
+    for i in 0..8 {
+        reply[5 + i] = u32::from(words[i]);
+    }
+    reply
+}
+
+// The reply where a call is refused.
+fn refused(reason: Refusal) -> [u32; 13]
+    ensures { result ≡ number_of reason ∷ replicate 12 0 }
+{
+    reply_with(u32::from(reason), [0; 4], [0; 8])
+}
+
+fn value_reply(told: Result<u32, Refusal>) -> [u32; 13]
+    ensures { result ≡ value_reply (answer_of told) }
+{
+    match told {
+        Ok(value) => reply_with(0, [value, 0, 0, 0], [0; 8]),
+        Err(reason) => refused(reason),
     }
 }
 
-// The value, 0 beside a refusal.
-fn value_in(outcome: Outcome) -> u32
-    ensures { result ≡ (answer_of outcome).value }
-{
-    match outcome {
-        Outcome::Value(v) => v,
-        Outcome::Refused(_) => 0,
-    }
-}
-
-// A reply with four values and eight words.
-fn reply_with(
-    number: u32,
-    first: u32,
-    second: u32,
-    third: u32,
-    fourth: u32,
-    words: [u8; 8],
-) -> [u32; 13]
-    ensures { result ≡ number ∷ first ∷ second ∷ third ∷ fourth ∷ words }
-{
-    [
-        number,
-        first,
-        second,
-        third,
-        fourth,
-        wide(words[0]),
-        wide(words[1]),
-        wide(words[2]),
-        wide(words[3]),
-        wide(words[4]),
-        wide(words[5]),
-        wide(words[6]),
-        wide(words[7]),
-    ]
-}
-
-fn value_reply(outcome: Outcome) -> [u32; 13]
-    ensures { result ≡ value_reply (answer_of outcome) }
-{
-    reply_with(number_in(outcome), value_in(outcome), 0, 0, 0, [0; 8])
-}
-
-fn words_reply(told: checks::Words) -> [u32; 13]
+fn words_reply(told: Result<[u8; 8], Refusal>) -> [u32; 13]
     ensures { result ≡ words_reply (words_of told) }
 {
-    let outcome = told.outcome;
-    let words = told.words;
-    reply_with(number_in(outcome), 0, 0, 0, 0, words)
+    match told {
+        Ok(words) => reply_with(0, [0; 4], words),
+        Err(reason) => refused(reason),
+    }
 }
 
-fn search_reply(told: search::SearchResult) -> [u32; 13]
-    ensures { result ≡ search_reply (says_search told) }
-{
-    let outcome = told.outcome;
-    let row = told.row;
-    reply_with(number_in(outcome), value_in(outcome), 0, 0, 0, row)
-}
-
-fn walk_reply(told: walk::WalkResult) -> [u32; 13]
-    ensures { result ≡ walk_reply (says_walk told) }
-{
-    let outcome = told.outcome;
-    let row = told.row;
-    let tried = (told.tried % 4294967296) as u32;
-    reply_with(
-        number_in(outcome),
-        value_in(outcome),
-        tried,
-        told.count,
-        told.bound,
-        row,
-    )
-}
-
-fn check_reply(told: checks::Checked) -> [u32; 13]
+fn check_reply(told: Result<Found, Refusal>) -> [u32; 13]
     ensures { result ≡ check_reply (checked_of told) }
 {
-    let outcome = told.outcome;
-    let found = told.found;
-    [
-        number_in(outcome),
-        found.branch,
-        found.mds,
-        found.involution,
-        found.count,
-        0,
-        0,
-        0,
-        0,
-        0,
-        0,
-        0,
-        0,
-    ]
+    match told {
+        Ok(found) => {
+            let mds = u32::from(found.mds);
+            let involution = u32::from(found.involution);
+            reply_with(0, [found.branch, mds, involution, found.count], [0; 8])
+        }
+        Err(reason) => refused(reason),
+    }
+}
+
+fn search_reply(told: Result<LightestRow, Refusal>) -> [u32; 13]
+    ensures { result ≡ search_reply (says_search told) }
+{
+    match told {
+        Ok(found) => reply_with(0, [found.sum, 0, 0, 0], found.row),
+        Err(reason) => refused(reason),
+    }
+}
+
+fn walk_reply(told: Result<Told, Refusal>) -> [u32; 13]
+    ensures { result ≡ walk_reply (says_walk told) }
+{
+    match told {
+        Ok(walk) => {
+            let best = walk.best.unwrap_or(CountedRow {
+                count: 999999,
+                row: [0; 8],
+            });
+            let finished = u32::from(walk.finished);
+            let tried = (walk.tried % 4294967296) as u32;
+            reply_with(0, [finished, tried, best.count, walk.bound], best.row)
+        }
+        Err(reason) => refused(reason),
+    }
 }
 
 // ---- the calls
 
 // Calls 1 to 10, which yield a number.
-fn value_call(call: u32, p: u32, a: u32, b: u32, m: [[u8; 8]; 8], x: [u8; 8]) -> Outcome
-    ensures { answer_of result ≡ get_or (value_answers p a b m x) call no_answer }
+fn value_call(call: Call) -> Result<u32, Refusal>
+    ensures { answer_of result ≡ get_or (value_answers call.p call.a call.b call.m call.x) call.number no_answer }
 {
-    match call {
+    let Call { p, a, b, m, x, .. } = call;
+    match call.number {
         1 => field::checked_degree(p),
         2 => field::checked_product(p, a, b),
         3 => field::checked_inverse(p, a),
@@ -214,42 +180,24 @@ fn value_call(call: u32, p: u32, a: u32, b: u32, m: [[u8; 8]; 8], x: [u8; 8]) ->
         8 => checks::checked_involution(p, m, a),
         9 => checks::checked_matrix_count(p, m, a),
         10 => checks::checked_row_count(p, x, a),
-        _ => Outcome::Value(0),
+        _ => Ok(0),
     }
 }
 
-// The reply to a call.
-fn reply_to(
-    call: u32,
-    p: u32,
-    a: u32,
-    b: u32,
-    m: [[u8; 8]; 8],
-    x: [u8; 8],
-    candidates: &[u32],
-    budget: u64,
-) -> [u32; 13]
-    ensures { result ≡ reply_to call p a b m x candidates.now budget }
+// The reply to a call; the candidates are those of a search and of a walk.
+fn reply_to(call: Call, candidates: &[u32]) -> [u32; 13]
+    ensures { result ≡ reply_to call.number call.p call.a call.b call.m call.x candidates.now call.budget }
 {
-    match call {
+    let Call { p, a, m, x, .. } = call;
+    match call.number {
         11 => words_reply(checks::checked_plain(p, m, x, a)),
-        12 => {
-            let row = m[0];
-            words_reply(checks::checked_halved(p, row, x, a))
-        }
+        12 => words_reply(checks::checked_halved(p, m[0], x, a)),
         13 => check_reply(checks::checked_check(p, m, a)),
-        14 => search_reply(search::search(p, a, candidates)),
-        15 => search_reply(search::search_circulant(p, a, candidates)),
-        16 => walk_reply(walk::best_yet(p, a, candidates, budget)),
-        _ => value_reply(value_call(call, p, a, b, m, x)),
+        14 => search_reply(search::search_for(Family::Hadamard, p, a, candidates)),
+        15 => search_reply(search::search_for(Family::Circulant, p, a, candidates)),
+        16 => walk_reply(walk::best_yet(p, a, candidates, call.budget)),
+        _ => value_reply(value_call(call)),
     }
-}
-
-// At most 256: one more than a search takes.
-fn at_most(count: u32) -> usize
-    ensures { result ≡ min count 256 }
-{
-    if count < 256 { count as usize } else { 256 }
 }
 
 // The reply to a record.
@@ -257,37 +205,29 @@ fn reply_of(bytes: &[u8]) -> [u32; 13]
     requires { 88 ≤ length bytes.now }
     ensures { result ≡ reply_of bytes.now }
 {
-    let call = number_at(bytes, 0);
-    let p = number_at(bytes, 4);
-    let a = number_at(bytes, 8);
-    let b = number_at(bytes, 12);
-    let m = matrix_of(bytes);
-    let x = words_at(bytes, 80);
+    let call = Call {
+        number: number_at(bytes, 0),
+        p: number_at(bytes, 4),
+        a: number_at(bytes, 8),
+        b: number_at(bytes, 12),
+        m: matrix_of(bytes),
+        x: words_at(bytes, 80),
+        budget: budget_of(bytes),
+    };
     let values = widened(bytes);
-    let count = at_most(b);
-    let budget = budget_of(bytes);
-    reply_to(call, p, a, b, m, x, &values[..count], budget)
+    let count = call.b.min(256) as usize;
+    reply_to(call, &values[..count])
 }
 
 // ---- the answer
-
-// Byte k of a number.
-fn byte_of(v: u32, k: usize) -> u8
-    requires { k < 4 }
-    ensures { result ≡ byte_of v k }
-{
-    ((v >> (8 * k)) % 256) as u8
-}
 
 // The bytes of a reply.
 fn bytes_of(reply: [u32; 13]) -> [u8; 52]
     ensures { result ≡ as_bytes reply }
 {
     let mut bytes = [0u8; 52];
-    let mut i = 0;
-    while i < 52 {
-        bytes[i] = byte_of(reply[i / 4], i % 4);
-        i += 1;
+    for i in 0..13 {
+        bytes[4 * i..4 * i + 4].copy_from_slice(&reply[i].to_le_bytes());
     }
     bytes
 }
@@ -303,8 +243,7 @@ fn respond(bytes: &[u8]) -> [u8; 52]
 // At most 65,536 records of 88 bytes; what is left at the end, or where a read fails, is no record. A write that fails ends the program with its error.
 fn main(rt: HostRuntime) -> io::Result<()> {
     let mut bytes = [0u8; 88];
-    let mut k = 0usize;
-    while k < 65536 {
+    for _ in 0..65536 {
         let mut read = 0;
         let _ended = input::read_full(&mut rt.stdin(), &mut bytes, &mut read);
         if read < 88 {
@@ -312,7 +251,6 @@ fn main(rt: HostRuntime) -> io::Result<()> {
         }
         let answer = respond(&bytes);
         rt.stdout().write_all(&answer)?;
-        k += 1;
     }
     Ok(())
 }

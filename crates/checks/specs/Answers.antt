@@ -1,14 +1,13 @@
 -- The faults of the calls on matrices in the order in which they are looked at, and what the calls yield. Assumes nothing.
-use Rattle.std.specs.Prelude.{Bool, true, false, not, ◌||◌, List, [], ◌∷◌, ℕ, eqb, ltb, get_or}
-use Rattle.refusal.specs.Refusals.{Fault, Answer, answer, answer_of}
+use Rattle.std.specs.Prelude.{Bool, true, false, not, ◌||◌, List, [], ◌∷◌, ℕ, eqb, ltb, get_or, replicate, Result}
+use Rattle.refusal.specs.declared.Refusal.{Refusal}
+use Rattle.refusal.specs.Refusals.{Fault, Answer, answer_by}
 use Rattle.algebra.specs.Matrix.{branch_number, is_mds, is_involution}
 use Rattle.field.specs.Polynomial.{some_below}
 use Rattle.field.specs.Faults.{is_too_large, call_faults}
 use Rattle.lines.specs.Numbers.{numbers, elements}
 use Rattle.lines.specs.Counts.{matrix_count}
-use Rattle.checks.specs.declared.Words.{Words}
 use Rattle.checks.specs.declared.Found.{Found}
-use Rattle.checks.specs.declared.Checked.{Checked}
 
 -- 1 for yes, 0 for no
 abbrev pub yes_no : Bool → ℕ
@@ -54,15 +53,15 @@ halved_faults p n row x = call_faults p (is_wrong_halved_order n) false (some_wo
 -- ---- what is returned
 
 -- with eight words
-abbrev pub words_of : Words → Answer (List ℕ)
-words_of w = answer (answer_of w.outcome).number w.words
+abbrev pub words_of : Result (List ℕ) Refusal → Answer (List ℕ)
+words_of = answer_by (λ w. w) (replicate 8 0)
 
 -- with the four numbers of a check
 abbrev pub check_found : Found → List ℕ
-check_found f = f.branch ∷ f.mds ∷ f.involution ∷ f.count ∷ []
+check_found f = f.branch ∷ yes_no f.mds ∷ yes_no f.involution ∷ f.count ∷ []
 
-abbrev pub checked_of : Checked → Answer (List ℕ)
-checked_of c = answer (answer_of c.outcome).number (check_found c.found)
+abbrev pub checked_of : Result Found Refusal → Answer (List ℕ)
+checked_of = answer_by check_found (replicate 4 0)
 
 -- what is found of a matrix: branch number, MDS and involution (1 or 0), XOR count
 unfoldable pub check_of : ℕ → ℕ → (ℕ → ℕ → ℕ) → List ℕ

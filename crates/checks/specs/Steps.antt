@@ -1,8 +1,20 @@
--- The values that the calls look at, as the code goes through them. Assumes nothing.
-use Rattle.std.specs.Prelude.{Bool, ◌||◌, List, [], ℕ, get_or}
-use Rattle.field.specs.Polynomial.{some_below}
-use Rattle.checks.specs.Answers.{some_word_too_large}
+-- What the calls know of their arguments, step by step. Assumes nothing.
+use Rattle.std.specs.Prelude.{◌≡◌, Bool, false, List, ℕ, ◌≤◌, Result, MatchResult}
+use Rattle.refusal.specs.declared.Refusal.{Refusal}
+use Rattle.refusal.specs.Refusals.{number_of, first_number}
+use Rattle.field.specs.Faults.{call_faults}
+use Rattle.field.specs.declared.table.Field.{Field}
+use Rattle.lines.specs.Numbers.{entry, InField}
+use Rattle.checks.specs.Answers.{matrix_faults}
 
--- of the first r lines of an array of arrays, or of the row beside them, some word is too large, n words each
-unfoldable pub some_value_too_large : ℕ → List (List ℕ) → ℕ → List ℕ → ℕ → Bool
-some_value_too_large p m r row n = some_below r (λ i. some_word_too_large p n (get_or m i [])) || some_word_too_large p n row
+-- the field over p, where the order is not wrong; else the reason of the first fault of a call, whatever its values are
+abbrev pub OrderPasses : ℕ → Bool → Result Field Refusal → Type 0
+OrderPasses p wrong result =
+    MatchResult result (λ field. (field.polynomial ≡ p) × (wrong ≡ false))
+    (λ reason. (large : Bool) → number_of reason ≡ first_number (call_faults p wrong false large false))
+
+-- the field over p, where none of the faults of a matrix is there; else the reason of the first that is
+abbrev pub MatrixPasses : ℕ → ℕ → List (List ℕ) → Result Field Refusal → Type 0
+MatrixPasses p n m result =
+    MatchResult result (λ field. (field.polynomial ≡ p) × (1 ≤ n) × (n ≤ 8) × InField field.polynomial n n m × (first_number (matrix_faults p n (entry m)) ≡ 0))
+    (λ reason. number_of reason ≡ first_number (matrix_faults p n (entry m)))

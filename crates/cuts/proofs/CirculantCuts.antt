@@ -2,16 +2,16 @@
 -- blocks, and that the lightest row is the lightest of those that are tried. Assumes nothing.
 use mathlib.Core.Path.{◌≡◌, refl, sym, ap, ◌∙◌}
 use mathlib.Core.Logic.{⊎_elim}
-use mathlib.Core.Bool.{true, false, not, ◌&&◌, true≢false}
+use mathlib.Core.Bool.{true, not, ◌&&◌, true≢false}
 use mathlib.Core.List.{List}
 use Prim.Native.Nat.{ℕ, zero, suc, ◌+◌, ◌-◌, ◌%◌, ◌^◌, ◌≤◌, ◌<◌}
 use native.Mathlib.Decide.{dec_lt}
-use native.Mathlib.Nat.{pos_of_ne-zero, eq-or-lt_of_le}
+use native.Mathlib.Nat.{eq-or-lt_of_le}
 use native.Mathlib.Omega.{arith}
-use lib.Dec.{eqb, leb, ltb}
+use lib.Dec.{eqb, leb}
 use lib.ListN.{length, get_or, take}
 use lib.Seq.{length-take-le, get_or-take}
-use borrow.Author.Tests.{ltb-true, lt-ltb, le-leb, lt-leb, eqb-true, eq-eqb, ne_eqb}
+use borrow.Author.Tests.{le-leb, lt-leb, eq-eqb, ne_eqb}
 use Rattle.algebra.specs.Matrix.{circulant, words}
 use Rattle.algebra.proofs.Involution.{and_left, and_right}
 use Rattle.algebra.proofs.Symmetry.{same_bool}
@@ -31,7 +31,7 @@ use Rattle.rows.specs.Shape.{is_good, circulant_shape}
 use Rattle.rows.specs.Keys.{key_of, lightest_row}
 use Rattle.cuts.specs.Steps.Cuts.{may_stand, passes, AllStand, tried}
 use Rattle.rows.specs.Steps.Orders.{CirculantOrder}
-use Rattle.rows.specs.Steps.Around.{prime_places, place_below, fourth_around}
+use Rattle.rows.specs.Steps.Around.{place_below, fourth_around}
 use Rattle.cuts.specs.Steps.Circulant.{is_next_around, pair_passes, pairs_pass}
 use Rattle.cuts.specs.Steps.Families.{circulant_cuts}
 use Rattle.rows.proofs.Rows.{mem_words}

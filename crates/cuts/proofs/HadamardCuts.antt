@@ -1,9 +1,9 @@
 -- The cuts of the walk over Hadamard rows: what the code tests of a letter, of the last letter and of a whole row, what the tests of a
 -- row's prefixes say of its small blocks, and that the lightest row is the lightest of those that are tried.
 -- Assumes nothing.
-use mathlib.Core.Path.{◌≡◌, refl, sym, ap, subst, ◌∙◌}
+use mathlib.Core.Path.{◌≡◌, refl, sym, ap, ap₂, subst, ◌∙◌}
 use mathlib.Core.Logic.{inr, ⊎_elim}
-use mathlib.Core.Bool.{Bool, true, false, not, ◌&&◌, and_assoc, and-true, and-false, true≢false}
+use mathlib.Core.Bool.{Bool, true, false, not, ◌&&◌, ◌||◌, and_assoc, and-true, and-false, true≢false}
 use mathlib.Core.List.{List, [], ◌∷◌, foldl, foldl-append, Memᴰ}
 use Prim.Native.Nat.{ℕ, zero, suc, ◌+◌, ◌-◌, ◌/◌, ◌^◌, ◌≤◌, ◌<◌}
 use native.Mathlib.Nat.{pos_of_ne-zero}
@@ -13,6 +13,7 @@ use native.Mathlib.Omega.{arith}
 use lib.Bits.{bit_xor, xor_lt}
 use lib.Dec.{eqb, ltb}
 use lib.ListN.{length, get_or, take}
+use Rattle.std.specs.List.{list_any}
 use lib.Seq.{take-suc, length-take-le, get_or-take}
 use borrow.Author.Tests.{ltb-true, lt-ltb, le-ltb, eqb-true, eq-eqb, ne_eqb, not-true}
 use Rattle.algebra.specs.Matrix.{sum, hadamard, is_mds, words}
@@ -93,6 +94,15 @@ member_at row d a fits i h e =
     let there : Memᴰ (get_or (take d row) i 0) (take d row) = get_d_mem (take d row) i 0 (omega (arith, length-take-le d row fits)) in
     (member_mem a (take d row)).1 (subst (λ (x : ℕ). Memᴰ x (take d row)) (get_or-take d row i 0 h ∙ e) there)
 
+-- as a search for it tells
+pub member_any : (a : ℕ) (l : List ℕ) → list_any (λ y. eqb y a) l ≡ member a l
+unfolding member
+member_any a [] = refl
+member_any a (y ∷ l) = ap₂ ◌||◌ turned (member_any a l)
+  where
+    turned : eqb y a ≡ eqb a y
+    turned = same_bool _ _ (λ e. eq-eqb a y (sym (eqb-true y a e))) (λ e. eq-eqb y a (sym (eqb-true a y e)))
+
 -- nothing stands before it
 pub next_first : (row : List ℕ) (d a : ℕ) → d ≡ 0 → ltb 0 a ≡ is_next (take d row) a
 unfolding is_next member
@@ -111,6 +121,10 @@ module _ (row : List ℕ) (d a : ℕ) (fits : d ≤ length row) (l : d < 8) (som
   -- it stands already
   pub next_equal : (i : ℕ) → i < d → get_or row i 0 ≡ a → false ≡ is_next (take d row) a
   next_equal i h e = sym (next_is ∙ (rw (member_at row d a fits i h e, and-false)))
+
+  -- it is large enough: it passes where it is none of the entries
+  pub next_large : get_or row (place_before d) 0 < a → not (member a (take d row)) ≡ is_next (take d row) a
+  next_large h = sym (next_is ∙ (rw (lt-ltb (get_or row (place_before d) 0) a h)))
 
   -- it passes
   pub next_passes : get_or row (place_before d) 0 < a → member a (take d row) ≡ false → true ≡ is_next (take d row) a

@@ -3,7 +3,7 @@
 
 ghost use Rattle.std.specs.Prelude.{◌≡◌, suc, ◌<◌, ◌≤◌, take};
 ghost use mathlib.Core.List.{foldl};
-ghost use Rattle.field.specs.Polynomial.{Modulus, ◌⊕◌, Products};
+ghost use Rattle.field.specs.Polynomial.{◌⊕◌};
 ghost use Rattle.field.specs.Steps.{every_below};
 ghost use Rattle.lines.specs.Numbers.{WordsInField};
 ghost use Rattle.rows.specs.Shape.{hadamard_shape, is_good};
@@ -11,6 +11,9 @@ ghost use Rattle.rows.specs.Steps.Orders.{SearchOrder};
 ghost use Rattle.cuts.specs.Steps.Hadamard.{is_next, plane_passes, planes_pass, last_letter};
 ghost use Rattle.cuts.specs.Steps.Families.{hadamard_cuts};
 ghost use Rattle.cuts.specs.Steps.Cuts.{AllStand};
+
+use field::table::Table;
+use matrix::block::{Look, regular_between};
 
 // At order 4 and 8 the entry at place d is larger than that at place BEFORE[d], from d = 1 on.
 const BEFORE: [u8; 8] = [0, 0, 1, 2, 2, 4, 4, 4];
@@ -23,39 +26,24 @@ pub fn is_next(row: [u8; 8], level: usize, a: u8) -> bool
     if level == 0 {
         return 0 < a;
     }
-    let low = BEFORE[level] as usize;
+    let low = usize::from(BEFORE[level]);
     if a <= row[low] {
         return false;
     }
-    let mut i = 0;
-    while i < level {
-        if row[i] == a {
-            return false;
-        }
-        i += 1;
-    }
-    true
+    !row[..level].contains(&a)
 }
 
 // Whether the plane of the indices a, b and d passes, where its fourth index c is below d: a and b do not have the product of c and
 // d, and at order 8 the four entries add up to 2 or more.
-fn plane_passes(
-    p: u16,
-    products: &[u8; 65536],
-    n: usize,
-    row: [u8; 8],
-    d: usize,
-    b: usize,
-    a: usize,
-) -> bool
-    requires { (a < b) × (b < d) × (d < 8) × WordsInField p (suc d) row × Products p products.now }
-    ensures { result ≡ plane_passes p n row d b a }
+fn plane_passes(table: &Table, n: usize, row: [u8; 8], d: usize, b: usize, a: usize) -> bool
+    requires { (a < b) × (b < d) × (d < 8) × WordsInField table.now.polynomial (suc d) row }
+    ensures { result ≡ plane_passes table.now.polynomial n row d b a }
 {
     let c = a ^ b ^ d;
     if d <= c {
         return true;
     }
-    if field::times(p, products, row[a], row[b]) == field::times(p, products, row[c], row[d]) {
+    if table.times(row[a], row[b]) == table.times(row[c], row[d]) {
         return false;
     }
     if n != 8 {
@@ -65,40 +53,19 @@ fn plane_passes(
 }
 
 // Whether all planes of b, d and an index below b pass.
-fn planes_through(
-    p: u16,
-    products: &[u8; 65536],
-    n: usize,
-    row: [u8; 8],
-    d: usize,
-    b: usize,
-) -> bool
-    requires { (b < d) × (d < 8) × WordsInField p (suc d) row × Products p products.now }
-    ensures { result ≡ every_below b (plane_passes p n row d b) }
+fn planes_through(table: &Table, n: usize, row: [u8; 8], d: usize, b: usize) -> bool
+    requires { (b < d) × (d < 8) × WordsInField table.now.polynomial (suc d) row }
+    ensures { result ≡ every_below b (plane_passes table.now.polynomial n row d b) }
 {
-    let mut a = 0;
-    while a < b {
-        if !plane_passes(p, products, n, row, d, b, a) {
-            return false;
-        }
-        a += 1;
-    }
-    true
+    (0..b).all(|a| plane_passes(table, n, row, d, b, a))
 }
 
 // Whether all planes pass that the entry at place d completes.
-pub fn planes_pass(p: u16, products: &[u8; 65536], n: usize, row: [u8; 8], d: usize) -> bool
-    requires { (d < 8) × WordsInField p (suc d) row × Products p products.now }
-    ensures { result ≡ planes_pass p n row d }
+pub fn planes_pass(table: &Table, n: usize, row: [u8; 8], d: usize) -> bool
+    requires { (d < 8) × WordsInField table.now.polynomial (suc d) row }
+    ensures { result ≡ planes_pass table.now.polynomial n row d }
 {
-    let mut b = 0;
-    while b < d {
-        if !planes_through(p, products, n, row, d, b) {
-            return false;
-        }
-        b += 1;
-    }
-    true
+    (0..d).all(|b| planes_through(table, n, row, d, b))
 }
 
 // The letter that makes the exclusive or 1 behind the first entries.
@@ -111,11 +78,11 @@ pub fn last_letter(row: [u8; 8], level: usize) -> u8
 
 // Whether a row whose exclusive or is 1 is good, where each entry may stand: blocks of up to half the order decide, of these the ones
 // whose columns no translation makes smaller; and those of sizes 1 and 2 are known to be regular.
-pub fn is_good(p: u16, products: &[u8; 65536], n: usize, row: [u8; 8]) -> bool
-    requires { Modulus p × SearchOrder n × WordsInField p n row × (foldl ◌⊕◌ 0 (take n row) ≡ 1) × AllStand (hadamard_cuts p n) n row
-        × Products p products.now }
-    ensures { result ≡ is_good hadamard_shape p n (take n row) }
+pub fn is_good(table: &Table, n: usize, row: [u8; 8]) -> bool
+    requires { SearchOrder n × WordsInField table.now.polynomial n row × (foldl ◌⊕◌ 0 (take n row) ≡ 1)
+        × AllStand (hadamard_cuts table.now.polynomial n) n row }
+    ensures { result ≡ is_good hadamard_shape table.now.polynomial n (take n row) }
 {
     let m = multiply::hadamard_matrix(row, n);
-    matrix::block::regular_between(p, products, m, n, 1, 2, n / 2)
+    regular_between(table, m, n, Look::Translations, 2, n / 2)
 }

@@ -2,12 +2,12 @@
 #![tactic(auto)]
 
 ghost use Rattle.std.specs.Prelude.{◌≡◌, ◌&&◌, suc, ◌<◌, ◌≤◌, take};
-ghost use Rattle.field.specs.Polynomial.{Products};
 ghost use Rattle.lines.specs.Numbers.{WordsInField};
 ghost use Rattle.rows.specs.Shape.{shape_of, is_good};
 ghost use Rattle.cuts.specs.Steps.Families.{is_next_of, blocks_pass_of, is_forced, cuts_of};
 ghost use Rattle.cuts.specs.Steps.Cuts.{Whole};
 
+use field::table::Table;
 use rows::Family;
 
 pub mod circulant;
@@ -25,20 +25,13 @@ pub fn is_next(family: Family, n: usize, row: [u8; 8], level: usize, a: u8) -> b
 }
 
 // Whether the blocks of size 2 pass that the entry at place d completes.
-pub fn blocks_pass(
-    family: Family,
-    p: u16,
-    products: &[u8; 65536],
-    n: usize,
-    row: [u8; 8],
-    d: usize,
-) -> bool
-    requires { (d < n) × (n ≤ 8) × WordsInField p (suc d) row × Products p products.now }
-    ensures { result ≡ blocks_pass_of family p n row d }
+pub fn blocks_pass(family: Family, table: &Table, n: usize, row: [u8; 8], d: usize) -> bool
+    requires { (d < n) × (n ≤ 8) × WordsInField table.now.polynomial (suc d) row }
+    ensures { result ≡ blocks_pass_of family table.now.polynomial n row d }
 {
     match family {
-        Family::Hadamard => hadamard::planes_pass(p, products, n, row, d),
-        Family::Circulant => circulant::pairs_pass(p, products, n, row, d),
+        Family::Hadamard => hadamard::planes_pass(table, n, row, d),
+        Family::Circulant => circulant::pairs_pass(table, n, row, d),
     }
 }
 
@@ -53,12 +46,12 @@ pub fn is_forced(family: Family, last: bool) -> bool
 }
 
 // Whether a whole row is good.
-pub fn is_good(family: Family, p: u16, products: &[u8; 65536], n: usize, row: [u8; 8]) -> bool
-    requires { Whole (cuts_of family p n) p n row × Products p products.now }
-    ensures { result ≡ is_good (shape_of family) p n (take n row) }
+pub fn is_good(family: Family, table: &Table, n: usize, row: [u8; 8]) -> bool
+    requires { Whole (cuts_of family table.now.polynomial n) table.now.polynomial n row }
+    ensures { result ≡ is_good (shape_of family) table.now.polynomial n (take n row) }
 {
     match family {
-        Family::Hadamard => hadamard::is_good(p, products, n, row),
-        Family::Circulant => circulant::is_good(p, products, n, row),
+        Family::Hadamard => hadamard::is_good(table, n, row),
+        Family::Circulant => circulant::is_good(table, n, row),
     }
 }

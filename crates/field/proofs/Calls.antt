@@ -1,19 +1,18 @@
 -- The faults of a polynomial, and the values that pass. Assumes nothing.
-use mathlib.Core.Path.{◌≡◌, refl, ap, ap₂, ◌∙◌}
+use mathlib.Core.Path.{◌≡◌, refl, ap, ap₂, ◌∙◌, subst}
 use mathlib.Core.Bool.{Bool, true, false, not, ◌||◌}
-use mathlib.Core.List.{List, [], ◌++◌}
+use mathlib.Core.List.{List, [], ◌∷◌, ◌++◌}
 use Prim.Native.Nat.{ℕ, ◌*◌, ◌%◌, ◌^◌, ◌≤◌, ◌<◌}
 use native.Mathlib.Nat.{lt_of_lt_of_le, lt_of_le_of_lt, mul-le-mul, mod-eq_of_lt}
 use native.Mathlib.Omega.{arith}
 use borrow.Author.Tests.{ltb-false, lt-ltb, le-ltb, leb-false, not-false}
 use lib.Dec.{ltb, lit<}
 use lib.Pow.{pow_mono}
-use Rattle.refusal.specs.declared.Outcome.{Outcome}
-use Rattle.refusal.specs.declared.Outcome.TheVariants.{Value}
-use Rattle.refusal.specs.Refusals.{Fault, first_number, answer_after, answer_of}
-use Rattle.refusal.proofs.Faults.{first_empty, first_taken, first_left, first_passed, first_parts, after_later, numbered, outcome_passed}
+use Rattle.refusal.specs.Refusals.{Fault, fault, first_number, answer, answer_after}
+use Rattle.refusal.specs.declared.Refusal.TheVariants.{ValueRange, BadCandidate}
+use Rattle.refusal.proofs.Faults.{first_empty, first_taken, first_left, first_passed, first_parts, after_later, after_taken, after_left, after_empty, numbered}
 use Rattle.field.specs.Polynomial.{degree, is_irreducible, Modulus}
-use Rattle.field.specs.Faults.{is_outside, is_too_large, polynomial_faults}
+use Rattle.field.specs.Faults.{is_outside, is_too_large, polynomial_faults, call_faults}
 use Rattle.field.proofs.Degrees.{polynomial}
 
 -- ---- 3
@@ -68,15 +67,26 @@ pub modulus_passed : {A : Type 0} (empty value : A) (p : ℕ) (more : List Fault
 unfolding polynomial_faults numbered
 modulus_passed empty value p more h = after_later empty value (polynomial_faults p) more refl (modulus_number p h)
 
+-- a call over a polynomial that passes: 7 for a value, 8 for a value that may not be, else it yields
+module _ {A : Type 0} (empty value : A) {p q : ℕ} (large bad : Bool) (h : Modulus q) (e : q ≡ p) where
+  passed : answer_after empty (fault 7 large ∷ fault 8 bad ∷ []) value ≡ answer_after empty (call_faults p false false large bad) value
+  unfolding first_number answer_after
+  passed = modulus_passed empty value p (fault 5 false ∷ fault 6 false ∷ fault 7 large ∷ fault 8 bad ∷ []) (subst Modulus e h)
+
+  pub value_refused : large ≡ true → answer 7 empty ≡ answer_after empty (call_faults p false false large bad) value
+  value_refused d = after_taken empty value ValueRange large _ d ∙ passed
+
+  pub bad_refused : large ≡ false → bad ≡ true → answer 8 empty ≡ answer_after empty (call_faults p false false large bad) value
+  bad_refused d f = after_taken empty value BadCandidate bad _ f ∙ after_left empty value 7 large _ d ∙ passed
+
+  pub value_yielded : large ≡ false → bad ≡ false → answer 0 value ≡ answer_after empty (call_faults p false false large bad) value
+  value_yielded d f = after_empty empty value ∙ after_left empty value 8 bad _ f ∙ after_left empty value 7 large _ d ∙ passed
+
 -- where nothing is told, the polynomial passes, and nothing behind it is told
 pub modulus_parts : (p : ℕ) (more : List Fault) → first_number (polynomial_faults p ++ more) ≡ 0 → Modulus p × (first_number more ≡ 0)
 modulus_parts p more e =
     let (polynomial, rest) = first_parts (polynomial_faults p) more (unfold polynomial_faults numbered in refl) e in
     (number_modulus p polynomial, rest)
-
--- an accepted degree tells that the polynomial passes
-pub degree_modulus : (o : Outcome) (p w : ℕ) → answer_of o ≡ answer_after 0 (polynomial_faults p) (degree p) → o ≡ Value w → Modulus p
-degree_modulus o p w e d = number_modulus p (outcome_passed o (polynomial_faults p) (degree p) e w d)
 
 -- a polynomial that passes fits 16 bits
 pub modulus_fits : {p : ℕ} → Modulus p → p < 65536

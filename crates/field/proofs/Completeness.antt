@@ -1,15 +1,19 @@
 -- The table is complete: for 4 ≤ p ≤ 511, p stands in it exactly if it is irreducible; it ascends strictly (`table_ascends`), and holds 1, 2, 3,
 -- 6, 9, 18, 30 polynomials by degree. One computed test and one lemma. The polynomials of a degree ascend strictly (`polynomials_ascend`), and are
 -- the irreducible ones of that degree (`polynomials_exactly`). Assumes nothing.
+use Rattle.std.specs.List.{list_any}
+use Rattle.std.proofs.lemmas.List.Folds.{list_any_at, list_any_none}
+use Rattle.std.proofs.lemmas.List.Elements.{All-from_get_or}
+use borrow.Author.Tests.{eq-eqb, ne_eqb}
 use mathlib.Core.Path.{◌≡◌, refl, sym, ap, ap₂, ◌∙◌, subst}
-use mathlib.Core.Bool.{Bool, true, false}
+use mathlib.Core.Bool.{Bool, true, false, true≢false}
 use mathlib.Core.List.Memᴰ
 use mathlib.Core.List.{List, [], ◌∷◌, ◌++◌, map, Memᴰ}
 use mathlib.Core.Logic.{⊎_elim, ◌↔◌}
 use Prim.Native.Nat.{ℕ, zero, suc, ◌+◌, ◌-◌, ◌^◌, ◌≤◌, ◌<◌, suc-le-suc}
 use native.Mathlib.Nat.{zero-lt-suc, le_of_suc-le-suc, not-suc-le-zero, eq-or-lt_of_le, add-suc, suc-add, zero-add, le_refl, pow-suc, eq-zero-or-pos}
 use native.Mathlib.Omega.{arith}
-use lib.Dec.{lit≤}
+use lib.Dec.{eqb, lit≤}
 use lib.Pow.{pow_pos, pow_mono}
 use lib.ListN.{length, get_or, take, drop}
 use Rattle.field.specs.Polynomial.{◌⊕◌, digits_within, over_digits, degree, reduce, rem, Irreducible, is_irreducible, some_below}
@@ -271,3 +275,16 @@ unfolding Stands
 table_complete p l u e =
     let r : Stands p table = subst (Stands p) table_is (passing_complete is_irreducible 508 4 p l (omega arith) e) in
     (r.0, subst (λ (n : ℕ). r.0 < n) table_length r.1, r.2)
+
+-- a polynomial in range is one of the table exactly if it is irreducible
+pub listed : (p : ℕ) → 4 ≤ p → p ≤ 511 → list_any (λ q. eqb q p) table ≡ is_irreducible p
+listed p l u = at (is_irreducible p) refl
+  where
+    at : (b : Bool) → is_irreducible p ≡ b → list_any (λ q. eqb q p) table ≡ b
+    at true e =
+        let r = table_complete p l u e in
+        list_any_at (λ q. eqb q p) table r.0 0 (subst (λ (n : ℕ). r.0 < n) (sym table_length) r.1) (eq-eqb _ p r.2)
+    at false e =
+        list_any_none (λ q. eqb q p) table
+        (All-from_get_or (λ q. eqb q p ≡ false) table 0
+        (λ i h. ne_eqb (get_or table i 0) p (λ d. true≢false (sym (table_sound i (subst (λ (n : ℕ). i < n) table_length h)) ∙ ap is_irreducible d ∙ e))))

@@ -4,5 +4,6 @@ pub mod Polynomial
 pub mod Doubling
 pub mod Table
 pub mod Faults
+pub mod Fields
 pub mod Stated
 pub mod Steps

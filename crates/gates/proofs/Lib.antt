@@ -4,6 +4,6 @@ pub mod Counting
 pub mod Joined
 pub mod Evaluation
 pub mod AlwaysZero
-pub mod InputArrays
+pub mod InputLists
 pub mod SameEntries
 pub mod Netlists

@@ -2,72 +2,54 @@
 #![tactic(auto)]
 
 ghost use Rattle.std.specs.Prelude.{◌≡◌, ◌+◌, ◌-◌, ◌*◌, ◌/◌, ◌%◌, ◌^◌, ◌≤◌, ◌<◌, eqb, length, get_or};
-ghost use Rattle.field.specs.Polynomial.{Modulus, degree, product};
+ghost use Rattle.field.specs.Polynomial.{degree, product};
 ghost use Rattle.lines.specs.Numbers.{entry, InField, WordsInField};
 ghost use Rattle.lines.specs.Depths.{bit};
 ghost use Rattle.gates.specs.Gates.{inputs_of, carrier_of};
-ghost use Rattle.gates.specs.Steps.{as_inputs};
+
+use arrayvec::ArrayVec;
+use field::table::Field;
 
 // What carries an output bit that is always 0.
 pub const ALWAYS_ZERO: u32 = 999999;
 
-// The inputs of an output bit, ascending: the first `count` of the array, with zeros behind them.
-#[derive(Clone, Copy)]
-pub struct Inputs {
-    pub list: [u8; 64],
-    pub count: usize,
-}
-
 // Whether bit b of a times 2^j is 1.
-fn has_bit(p: u16, a: u8, j: usize, b: usize) -> bool
-    requires { Modulus p × (a < 2 ^ degree p) × (j < 8) × (b < 8) }
-    ensures { result ≡ eqb (bit b (product p a (2 ^ j))) 1 }
+fn has_bit(field: Field, a: u8, j: usize, b: usize) -> bool
+    requires { (a < 2 ^ degree field.polynomial) × (j < 8) × (b < 8) }
+    ensures { result ≡ eqb (bit b (product field.polynomial a (2 ^ j))) 1 }
 {
-    field::product(p, a, 1 << j) >> b & 1 == 1
+    field.product(a, 1 << j) >> b & 1 == 1
 }
 
-// The inputs of bit b of the output of a line of n entries.
-fn inputs_of(p: u16, line: [u8; 8], n: usize, b: usize) -> Inputs
-    requires { Modulus p × (n ≤ 8) × WordsInField p n line × (b < 8) }
-    ensures { result ≡ as_inputs (inputs_of p n (λ j. get_or line j 0) b) }
+// The inputs of bit b of the output of a line of n entries, ascending.
+fn inputs_of(field: Field, line: [u8; 8], n: usize, b: usize) -> ArrayVec<u8, 64>
+    requires { (n ≤ 8) × WordsInField field.polynomial n line × (b < 8) }
+    ensures { result.items ≡ inputs_of field.polynomial n (λ j. get_or line j 0) b }
 {
-    let m = field::degree(p) as usize;
-    let end = n * m;
-    let mut list = [0u8; 64];
-    let mut count = 0;
-    let mut v = 0;
-    while v < end {
-        if has_bit(p, line[v / m], v % m, b) {
-            list[count] = v as u8;
-            count += 1;
+    let m = usize::from(field.degree());
+    let mut inputs = ArrayVec::new();
+    for v in 0..n * m {
+        if has_bit(field, line[v / m], v % m, b) {
+            inputs.push(v as u8);
         }
-        v += 1;
     }
-    Inputs { list, count }
+    inputs
 }
 
 // The inputs of output bit o of a matrix of order n: bit b of word i is number i·m + b.
-pub fn inputs_at(p: u16, matrix: [[u8; 8]; 8], n: usize, o: usize) -> Inputs
-    requires { Modulus p × (n ≤ 8) × InField p n n matrix × (o < n * degree p) }
-    ensures { result ≡ as_inputs (inputs_of p n (entry matrix (o / degree p)) (o % degree p)) }
+pub fn inputs_at(field: Field, matrix: [[u8; 8]; 8], n: usize, o: usize) -> ArrayVec<u8, 64>
+    requires { (n ≤ 8) × InField field.polynomial n n matrix × (o < n * degree field.polynomial) }
+    ensures { result.items ≡ inputs_of field.polynomial n (entry matrix (o / degree field.polynomial)) (o % degree field.polynomial) }
 {
-    let m = field::degree(p) as usize;
-    let line = matrix[o / m];
-    inputs_of(p, line, n, o % m)
+    let m = usize::from(field.degree());
+    inputs_of(field, matrix[o / m], n, o % m)
 }
 
 // How many gates join so many inputs: one less, none for none.
 pub fn gate_count(inputs: usize) -> usize
     ensures { result ≡ inputs - 1 }
 {
-    if inputs == 0 { 0 } else { inputs - 1 }
-}
-
-// A byte as a number of an answer's line.
-pub fn wide(byte: u8) -> u32
-    ensures { (result ≡ byte) × (result ≤ 255) }
-{
-    byte as u32
+    inputs.saturating_sub(1)
 }
 
 // The number that carries an output bit with these inputs, whose gates are numbered from `next` on.
@@ -75,11 +57,9 @@ pub fn carrier_of(next: u32, inputs: &[u8]) -> u32
     requires { next + length inputs.now ≤ 999999 }
     ensures { (result ≡ carrier_of next inputs.now) × (result ≤ 999999) }
 {
-    if inputs.len() == 0 {
-        return ALWAYS_ZERO;
+    match inputs {
+        [] => ALWAYS_ZERO,
+        [one] => u32::from(*one),
+        [_, _, rest @ ..] => next + rest.len() as u32,
     }
-    if inputs.len() == 1 {
-        return wide(inputs[0]);
-    }
-    next + (inputs.len() - 2) as u32
 }

@@ -2,7 +2,7 @@
 -- Assumes nothing.
 use mathlib.Core.Path.{◌≡◌, refl, sym, ap, ap₂, subst, subst⁻¹, ◌∙◌}
 use mathlib.Core.Logic.{inl, inr, ⊎_elim}
-use mathlib.Core.Bool.{Bool, true, false, cond, not, ◌&&◌, and-true, or-false, true≢false}
+use mathlib.Core.Bool.{Bool, true, false, cond, ◌&&◌, and-true, or-false, true≢false}
 use mathlib.Core.List.Memᴰ
 use mathlib.Core.List.{List, [], ◌∷◌, ◌++◌, Memᴰ}
 use Prim.Native.Nat.{ℕ, suc, ◌+◌, ◌-◌, ◌*◌, ◌≤◌, ◌<◌}
@@ -10,12 +10,12 @@ use native.Mathlib.Nat.{le_refl, le_trans, eq-or-lt_of_le, mul-le-mul, lt_of_lt_
 use native.Mathlib.Decide.{dec_lt, ℕ_discrete}
 use native.Mathlib.Numerals.{add-one}
 use native.Mathlib.Omega.{arith}
-use lib.Dec.{eqb, leb, ltb, lit≤}
+use lib.Dec.{leb, ltb, lit≤}
 use lib.ListN.{length, get_or, take, set, replicate, length-append, length-set, take-append-drop}
 use lib.Seq.{take_at, take-length, take-take, take-suc-set, take-set-le, length-take-le, get_or-take, get_or-set_same, get_or-set_other, drop-set-lt}
 use lib.Pow.{pow_mono}
-use borrow.Author.Tests.{leb-true, leb-false, ltb-true, ltb-false, lt-ltb, le-ltb, eq-eqb, ne_eqb, not-true, not-false}
-use Rattle.algebra.proofs.Involution.{and_left, and_right}
+use borrow.Author.Tests.{leb-true, leb-false, ltb-true, ltb-false, lt-ltb, le-ltb, eq-eqb, ne_eqb}
+use Rattle.std.specs.Prelude.{Option, Some, None}
 use Rattle.field.specs.Polynomial.{xor_count}
 use Rattle.field.proofs.Degrees.{polynomial}
 use Rattle.lines.specs.Numbers.{WordsInField}
@@ -39,14 +39,13 @@ use Rattle.rows.proofs.Keys.{Less, LessOrSame, key_lt}
 use Rattle.rows.proofs.Walk.{mem_completions, extend_none, extend_suc, branches_suc, branches_zero}
 use Rattle.cuts.proofs.Pruning.{stands_front, skip_stand, skip_bound, OnlyLast, last_letter, last_none}
 use Rattle.lightest.specs.declared.Best.{Best as Kept}
-use Rattle.lightest.specs.Steps.Prefix.{kept, best_as, is_heavier, is_heavy, Reached, AtPrefix, NextLetter}
-use Rattle.lightest.proofs.LetterCounts.{table_knows, table_count, least_le, least_most}
+use Rattle.lightest.specs.Steps.Prefix.{kept, best_as, Long, is_heavier, is_heavy, Brief, Reached, NextLetter}
+use Rattle.lightest.specs.Steps.Search.{cuts_in, At}
+use Rattle.lightest.specs.declared.prefix.Search.{Search}
+use Rattle.lightest.specs.declared.prefix.Prefix.{Prefix}
+use Rattle.lightest.proofs.LetterCounts.{table_count, least_le, least_most}
 
 -- ---- the row kept
-
--- it has n entries
-abbrev pub Long : ℕ → Best → Type 0
-Long n best = (r : List ℕ) → best ≡ found r → length r ≡ n
 
 module _ (good : List ℕ → Bool) (key : List ℕ → ℕ) (n : ℕ) where
   keep_long : (best : Best) (r : List ℕ) → Long n best → length r ≡ n → Long n (keep good key best r)
@@ -69,22 +68,13 @@ module _ (good : List ℕ → Bool) (key : List ℕ → ℕ) (n : ℕ) where
       let (w, m, e) = (mem_completions letters (q ++ a ∷ []) k r).0 i in
       omega (arith, ap length e, length-append (q ++ a ∷ []) w, length-append q (a ∷ []), ((mem_words letters k w).0 m).0))
 
--- a struct's array has eight entries
-pub best_long : (n : ℕ) (b : Kept) → length b.row ≡ 8 → n ≤ 8 → Long n (best_as n b)
-unfolding best_as
-best_long n b eight most r e = go b.found e
-  where
-    go : (t : Bool) → cond t (found (take n b.row)) nothing ≡ found r → length r ≡ n
-    go true f = let same : take n b.row ≡ r = cc in ap length (sym same) ∙ length-take-le n b.row (omega arith)
-    go false f = absurd (let z : ◌≡◌ {A = ℕ} 0 1 = cc in omega arith)
-
--- the struct that holds a best row holds it
+-- what is kept of a best row tells it
 pub best_kept : (p n : ℕ) (best : Best) → Long n best → best_as n (kept p n best) ≡ best
 unfolding best_as kept
 best_kept p n nothing h = refl
 best_kept p n (found r) h = ap found (take_at r (replicate (8 - n) 0) n (h r refl))
 
-module _ (p n : ℕ) (b : Kept) (best : Best) (long : Long n best) (e : b ≡ kept p n best) where
+module _ (p n : ℕ) (b : Option Kept) (best : Best) (long : Long n best) (e : b ≡ kept p n best) where
   pub best_is : best_as n b ≡ best
   best_is = ap (best_as n) e ∙ best_kept p n best long
 
@@ -99,9 +89,9 @@ count_take p n row = element_count_cong p n _ _ (λ i l. get_or-take n row i 0 l
 depth_take : (p n : ℕ) (row : List ℕ) → line_depth p n (λ j. get_or (take n row) j 0) ≡ line_depth p n (λ j. get_or row j 0)
 depth_take p n row = line_depth_cong p n _ _ (λ i l. get_or-take n row i 0 l)
 
--- a row that is taken, with its sum and its depth
-abbrev row_kept : List ℕ → ℕ → ℕ → Kept
-row_kept row count depth = record { found = true; row = row; count = count; depth = depth }
+-- a row that is taken, with its depth and its sum
+abbrev row_kept : List ℕ → ℕ → ℕ → Option Kept
+row_kept row count depth = Some (record { row = row; depth = depth; count = count })
 
 pub kept_row : {cuts : Cuts} {p n : ℕ} {row : List ℕ} → Whole cuts p n row → (figure : Figure) → figure ≡ line_figure p n (λ j. get_or row j 0)
     → (depth : ℕ) → depth ≡ depth_of_ones figure.ones → row_kept row figure.count depth ≡ kept p n (found (take n row))
@@ -114,78 +104,85 @@ kept_row {p = p} {n = n} {row = row} w figure is depth e =
 
 -- ---- the test against the row kept
 
-module _ (b : Kept) where
-  -- a row is kept, or none
-  pub best_found : (n : ℕ) → b.found ≡ true → best_as n b ≡ found (take n b.row)
-  unfolding best_as
-  best_found n e = ap (λ t. cond t (found (take n b.row)) nothing) e
+module _ (b : Option Kept) (count depth : ℕ) where
+  -- the test, where no row is kept, where the counts differ and where they do not
+  pub heavy_none : b ≡ None → is_heavy b count depth ≡ false
+  unfolding is_heavy
+  heavy_none is = rw is refl
 
-  pub best_none : (n : ℕ) → b.found ≡ false → best_as n b ≡ nothing
-  unfolding best_as
-  best_none n e = ap (λ t. cond t (found (take n b.row)) nothing) e
-
-  module _ (count depth : ℕ) where
-    -- the test, where no row is kept, where the counts differ and where they do not
-    pub heavy_none : b.found ≡ false → is_heavy b count depth ≡ false
+  module _ (k : Kept) (is : b ≡ Some k) where
+    pub heavy_counts : (k.count ≡ count → ⊥) → is_heavy b count depth ≡ ltb k.count count
     unfolding is_heavy
-    heavy_none e = rw e refl
+    heavy_counts d = rw (is, ne_eqb k.count count d) (or-false (ltb k.count count))
 
-    pub heavy_counts : b.found ≡ true → (b.count ≡ count → ⊥) → is_heavy b count depth ≡ ltb b.count count
+    pub heavy_depths : k.count ≡ count → is_heavy b count depth ≡ leb k.depth depth
     unfolding is_heavy
-    heavy_counts e d = rw (e, ne_eqb b.count count d) (or-false (ltb b.count count))
+    heavy_depths q = rw (is, eq-eqb k.count count q, le-ltb k.count count (omega arith)) refl
 
-    pub heavy_depths : b.found ≡ true → b.count ≡ count → is_heavy b count depth ≡ leb b.depth depth
-    unfolding is_heavy
-    heavy_depths e q = rw (e, eq-eqb b.count count q, le-ltb b.count count (omega arith)) refl
+-- heavier is heavy
+heavier_heavy : (b : Option Kept) (count depth : ℕ) → is_heavier b count ≡ true → is_heavy b count depth ≡ true
+unfolding is_heavier is_heavy
+heavier_heavy None count depth e = e
+heavier_heavy (Some k) count depth e = rw e refl
 
-    -- heavier is heavy
-    heavier_heavy : is_heavier b count ≡ true → is_heavy b count depth ≡ true
-    unfolding is_heavier is_heavy
-    heavier_heavy e = rw (and_left b.found (ltb b.count count) e, and_right b.found (ltb b.count count) e) refl
+-- the sum and the depth of the row kept
+module _ (p n : ℕ) (k : Kept) (holds : ◌≡◌ {A = Option Kept} (Some k) (kept p n (best_as n (Some k)))) where
+  found_sum : sum_of p n (take n k.row) ≡ k.count
+  unfolding kept best_as
+  found_sum = cc
 
-  module _ (p n : ℕ) (holds : b ≡ kept p n (best_as n b)) where
-    found_sum : b.found ≡ true → sum_of p n (take n b.row) ≡ b.count
-    unfolding kept
-    found_sum e = sym (ap (λ (x : Kept). x.count) (holds ∙ ap (kept p n) (best_found n e)))
+  found_depth : depth_of_row p n (take n k.row) ≡ k.depth
+  unfolding kept best_as
+  found_depth = cc
 
-    found_depth : b.found ≡ true → depth_of_row p n (take n b.row) ≡ b.depth
-    unfolding kept
-    found_depth e = sym (ap (λ (x : Kept). x.depth) (holds ∙ ap (kept p n) (best_found n e)))
+-- too heavy: a row is kept, and it is lighter, or as heavy and not deeper
+heavy_true : (p n : ℕ) (b : Option Kept) → b ≡ kept p n (best_as n b) → (count depth : ℕ) → is_heavy b count depth ≡ true
+    → (r : List ℕ) × (best_as n b ≡ found r) × LessOrSame (sum_of p n r) (depth_of_row p n r) count depth
+unfolding is_heavy best_as
+heavy_true p n None holds count depth e = absurd (true≢false (sym e))
+heavy_true p n (Some k) holds count depth e = (
+  take n k.row,
+  refl,
+  rw (found_sum p n k holds, found_depth p n k holds) (elim (ℕ_discrete k.count count) [
+    | yes s ↦ inr (s, leb-true k.depth depth (sym (heavy_depths (Some k) count depth k refl s) ∙ e))
+    | no d ↦ inl (ltb-true k.count count (sym (heavy_counts (Some k) count depth k refl d) ∙ e))
+  ]),
+)
 
-    -- too heavy: a row is kept, and it is lighter, or as heavy and not deeper
-    heavy_true : (count depth : ℕ) → is_heavy b count depth ≡ true
-        → (best_as n b ≡ found (take n b.row)) × LessOrSame (sum_of p n (take n b.row)) (depth_of_row p n (take n b.row)) count depth
-    heavy_true count depth e = go b.found refl
-      where
-        go : (t : Bool) → b.found ≡ t
-            → (best_as n b ≡ found (take n b.row)) × LessOrSame (sum_of p n (take n b.row)) (depth_of_row p n (take n b.row)) count depth
-        go true q = (
-          best_found n q,
-          rw (found_sum q, found_depth q) (elim (ℕ_discrete b.count count) [
-            | yes s ↦ inr (s, leb-true b.depth depth (sym (heavy_depths count depth q s) ∙ e))
-            | no d ↦ inl (ltb-true b.count count (sym (heavy_counts count depth q d) ∙ e))
-          ]),
-        )
-        go false q = absurd (true≢false (sym e ∙ heavy_none count depth q))
+-- not too heavy: a row with this sum that is not deeper is lighter, or as heavy and shallower
+heavy_false : (p n : ℕ) (b : Option Kept) → b ≡ kept p n (best_as n b) → (r : List ℕ) (depth : ℕ) → depth_of_row p n r ≤ depth
+    → is_heavy b (sum_of p n r) depth ≡ false → lighter (key_of p n) (best_as n b) r ≡ true
+unfolding lighter best_as
+heavy_false p n None holds r depth l e = refl
+heavy_false p n (Some k) holds r depth l e =
+    lt-ltb (key_of p n r) (key_of p n (take n k.row)) (key_lt p n r (take n k.row) (rw (found_sum p n k holds, found_depth p n k holds) less))
+  where
+    less : Less (sum_of p n r) (depth_of_row p n r) k.count k.depth
+    less = elim (ℕ_discrete k.count (sum_of p n r)) [
+      | yes s ↦ inr (sym s, omega (arith, l, leb-false k.depth depth (sym (heavy_depths (Some k) (sum_of p n r) depth k refl s) ∙ e)))
+      | no d ↦
+          let least = ltb-false k.count (sum_of p n r) (sym (heavy_counts (Some k) (sum_of p n r) depth k refl d) ∙ e) in
+          inl (⊎_elim (λ q. absurd (d (sym q))) (λ l. l) (eq-or-lt_of_le least))
+    ]
 
-    -- not too heavy: a row with this sum that is not deeper is lighter, or as heavy and shallower
-    heavy_false : (r : List ℕ) (depth : ℕ) → depth_of_row p n r ≤ depth → is_heavy b (sum_of p n r) depth ≡ false → lighter (key_of p n) (best_as n b) r ≡ true
-    unfolding lighter
-    heavy_false r depth l e = go b.found refl
-      where
-        less : b.found ≡ true → Less (sum_of p n r) (depth_of_row p n r) b.count b.depth
-        less f = elim (ℕ_discrete b.count (sum_of p n r)) [
-          | yes s ↦ inr (sym s, omega (arith, l, leb-false b.depth depth (sym (heavy_depths (sum_of p n r) depth f s) ∙ e)))
-          | no d ↦
-              let least = ltb-false b.count (sum_of p n r) (sym (heavy_counts (sum_of p n r) depth f d) ∙ e) in
-              inl (⊎_elim (λ q. absurd (d (sym q))) (λ l. l) (eq-or-lt_of_le least))
-        ]
+-- ---- the prefix
 
-        go : (t : Bool) → b.found ≡ t → lighter (key_of p n) (best_as n b) r ≡ true
-        go true f =
-            ap (λ x. lighter (key_of p n) x r) (best_found n f)
-            ∙ lt-ltb (key_of p n r) (key_of p n (take n b.row)) (key_lt p n r (take n b.row) (rw (found_sum f, found_depth f) (less f)))
-        go false f = ap (λ x. lighter (key_of p n) x r) (best_none n f)
+-- the walk is at a prefix that is no whole row, with a row kept
+pub record AtPrefix (cuts : Cuts) (p n : ℕ) (letters counts : List ℕ) (least level : ℕ) (row : List ℕ) (count : ℕ) (best : Option Kept) : Type 0 where
+  pub brief : Brief cuts p n letters counts least
+  pub reached : Reached cuts p n letters level row count
+  pub inside : level < n
+  pub holds : best ≡ kept p n (best_as n best)
+  pub long : Long n (best_as n best)
+
+-- so is a search at a prefix
+pub whole_at : {s : Search} {at : Prefix} {best : Option Kept} → At s at best
+    → AtPrefix (cuts_in s) s.table.polynomial s.order s.letters.now s.counts.now s.least at.level at.row at.count best
+whole_at {s = s} h = record { brief = s.brief; reached = h.reached; inside = h.inside; holds = h.holds; long = h.long }
+
+pub at_whole : {s : Search} {at : Prefix} {best : Option Kept}
+    → AtPrefix (cuts_in s) s.table.polynomial s.order s.letters.now s.counts.now s.least at.level at.row at.count best → At s at best
+at_whole h = record { reached = h.reached; inside = h.inside; holds = h.holds; long = h.long }
 
 -- ---- a letter behind the prefix
 
@@ -201,7 +198,7 @@ over_snoc : (letters q : List ℕ) (a : ℕ) → ((b : ℕ) → Memᴰ b q → M
 over_snoc letters q a over letter b m =
     ⊎_elim (over b) (λ k. Memᴰ.cast (Memᴰ.eq_of_singleton k) letter) (Memᴰ.append_cases q m)
 
-module _ {cuts : Cuts} {p n : ℕ} {letters counts : List ℕ} {least level : ℕ} {row : List ℕ} {count : ℕ} {b : Kept}
+module _ {cuts : Cuts} {p n : ℕ} {letters counts : List ℕ} {least level : ℕ} {row : List ℕ} {count : ℕ} {b : Option Kept}
     (at : AtPrefix cuts p n letters counts least level row count b) where
   pub level_inside : level < 8
   level_inside = omega (arith, at.brief.most, at.inside)
@@ -312,11 +309,15 @@ module _ {cuts : Cuts} {p n : ℕ} {letters counts : List ℕ} {least level : �
     abbrev deep : ℕ
     deep = least_depth p n (λ j. get_or longer j 0) (level + 1) bound
 
+    -- the test at a number that is the bound
+    pub at_bound : (m : ℕ) → m ≡ bound → {v : Bool} → is_heavy b m (least_depth p n (λ j. get_or longer j 0) (level + 1) m) ≡ v → is_heavy b bound deep ≡ v
+    at_bound m q e = ap (λ (x : ℕ). is_heavy b x (least_depth p n (λ j. get_or longer j 0) (level + 1) x)) (sym q) ∙ e
+
     pub branch_heavy : is_heavy b bound deep ≡ true → b ≡ kept p n kept_after
     branch_heavy e =
-        let (is, le) = heavy_true b p n at.holds bound deep e in
+        let (r, is, le) = heavy_true p n b at.holds bound deep e in
         stays (skip_bound cuts p n letters (take level row) a (n - (level + 1)) at.reached.over nx.letter places_left
-        at.brief.modulus at.brief.below at.brief.positive (best_as n b) (take n b.row) least letter_least is bound
+        at.brief.modulus at.brief.below at.brief.positive (best_as n b) r least letter_least is bound
         (rw (prefix_long, element_count_cong p (level + 1) _ _ next_at, ← count_next) refl)
         (rw (prefix_long, least_depth_cong p n (level + 1) bound _ _ next_at) le))
 
@@ -351,6 +352,7 @@ module _ {cuts : Cuts} {p n : ℕ} {letters counts : List ℕ} {least level : �
             reached = reached_next;
             inside = ⊎_elim (λ q. absurd (e q)) (λ l. l) (eq-or-lt_of_le (omega (arith, at.inside)));
             holds = at.holds;
+            long = at.long;
           }
 
       module _ (all : level + 1 ≡ n) where
@@ -390,7 +392,7 @@ module _ {cuts : Cuts} {p n : ℕ} {letters counts : List ℕ} {least level : �
             unfold sum_of in (count_next ∙ ap (λ (m : ℕ). element_count p m (λ j. get_or longer j 0)) all ∙ sym (count_take p n longer)) in
             let sum : sum_of p n (take n longer) ≡ bound = omega (arith, ap (λ (m : ℕ). least * m) none) in
             let light = ap (λ (s : ℕ). is_heavy b s deep) sum ∙ e in
-            sym (keep_tried cuts p n (best_as n b) (take n longer) passes_next (heavy_false b p n at.holds (take n longer) deep depth_whole light))
+            sym (keep_tried cuts p n (best_as n b) (take n longer) passes_next (heavy_false p n b at.holds (take n longer) deep depth_whole light))
             ∙ ap (keep (tried cuts p n) (key_of p n) (best_as n b)) same
             ∙ sym (ap (λ (m : ℕ). keep_all (tried cuts p n) (key_of p n) (best_as n b) (completions letters (take level row ++ a ∷ []) m)) none
             ∙ extend_none (tried cuts p n) (key_of p n) letters (take level row ++ a ∷ []) (best_as n b))
@@ -400,7 +402,7 @@ module _ {cuts : Cuts} {p n : ℕ} {letters counts : List ℕ} {least level : �
 
 -- ---- all letters behind the prefix
 
-module _ {cuts : Cuts} {p n : ℕ} {letters counts : List ℕ} {least level : ℕ} {row : List ℕ} {count : ℕ} {b : Kept}
+module _ {cuts : Cuts} {p n : ℕ} {letters counts : List ℕ} {least level : ℕ} {row : List ℕ} {count : ℕ} {b : Option Kept}
     (at : AtPrefix cuts p n letters counts least level row count b) where
   -- the row kept after all rows behind the prefix
   abbrev kept_all : Best
@@ -419,18 +421,24 @@ module _ {cuts : Cuts} {p n : ℕ} {letters counts : List ℕ} {least level : �
   upto_letter any i l = record { letter = get_d_mem letters i 0 l; last = any (get_or letters i 0) }
 
   -- the row kept after i letters, in a struct
-  module _ (long : length b.row ≡ 8) (i : ℕ) (b' : Kept) (k : b' ≡ kept p n (kept_upto i)) where
+  module _ (i : ℕ) (b' : Option Kept) (k : b' ≡ kept p n (kept_upto i)) where
     upto_long : Long n (kept_upto i)
     upto_long =
         branches_long (tried cuts p n) (key_of p n) n letters (take level row) (n - (level + 1))
-        (omega (arith, length-take-le level row (omega (arith, at.brief.most, at.inside, at.reached.eight)), at.inside)) (best_as n b) (take i letters) (best_long n b long at.brief.most)
+        (omega (arith, length-take-le level row (omega (arith, at.brief.most, at.inside, at.reached.eight)), at.inside)) (best_as n b) (take i letters) at.long
 
     pub upto_at : AtPrefix cuts p n letters counts least level row count b'
     upto_at =
-        record { brief = at.brief; reached = at.reached; inside = at.inside; holds = kept_own p n b' (kept_upto i) upto_long k }
+        record {
+          brief = at.brief;
+          reached = at.reached;
+          inside = at.inside;
+          holds = kept_own p n b' (kept_upto i) upto_long k;
+          long = subst⁻¹ (Long n) (best_is p n b' (kept_upto i) upto_long k) upto_long;
+        }
 
     -- one letter more
-    pub upto_more : i < length letters → (r : Kept)
+    pub upto_more : i < length letters → (r : Option Kept)
         → r ≡ kept p n (keep_all (tried cuts p n) (key_of p n) (best_as n b') (completions letters (take level row ++ get_or letters i 0 ∷ []) (n - (level + 1))))
         → r ≡ kept p n (kept_upto (i + 1))
     upto_more l r h =
@@ -440,7 +448,7 @@ module _ {cuts : Cuts} {p n : ℕ} {letters counts : List ℕ} {least level : �
         ∙ ap kept_upto (sym (add-one i)))
 
   -- all letters
-  pub upto_all : (i : ℕ) → i ≡ length letters → (r : Kept) → r ≡ kept p n (kept_upto i) → r ≡ kept p n kept_all
+  pub upto_all : (i : ℕ) → i ≡ length letters → (r : Option Kept) → r ≡ kept p n (kept_upto i) → r ≡ kept p n kept_all
   upto_all i e r h =
       let more : suc (n - (level + 1)) ≡ n - level = omega (arith, at.inside) in
       h
@@ -451,32 +459,22 @@ module _ {cuts : Cuts} {p n : ℕ} {letters counts : List ℕ} {least level : �
 
   -- ---- the only letter that may be the last
 
-  module _ (all : level + 1 ≡ n) (a : ℕ) (byte : a < 256) (only : OnlyLast cuts (take level row) a) where
+  module _ (all : level + 1 ≡ n) (a : ℕ) (only : OnlyLast cuts (take level row) a) where
     whole : length (take level row) + 1 ≡ n
     whole = omega (arith, length-take-le level row (omega (arith, at.brief.most, at.reached.eight)))
 
     one_left : kept_all ≡ keep_all (tried cuts p n) (key_of p n) (best_as n b) (completions letters (take level row) 1)
     one_left = ap (λ (m : ℕ). keep_all (tried cuts p n) (key_of p n) (best_as n b) (completions letters (take level row) m)) (omega arith)
 
-    knows : eqb (get_or counts a 0) 255 ≡ not (member a letters)
-    knows = ap (λ t. eqb (get_or t a 0) 255) at.brief.table ∙ table_knows p at.brief.modulus letters a byte
-
     -- it is no letter
-    pub last_left : get_or counts a 0 ≡ 255 → b ≡ kept p n kept_all
-    last_left e =
-        at.holds
-        ∙ ap (kept p n) (sym (one_left
-        ∙ last_none cuts p n letters (take level row) a whole only (best_as n b) (not-true (member a letters) (sym knows ∙ eq-eqb (get_or counts a 0) 255 e))))
+    pub last_left : member a letters ≡ false → b ≡ kept p n kept_all
+    last_left e = at.holds ∙ ap (kept p n) (sym (one_left ∙ last_none cuts p n letters (take level row) a whole only (best_as n b) e))
 
     -- it is one
-    pub last_taken : (get_or counts a 0 ≡ 255 → ⊥) → NextLetter cuts n letters level row a
-    last_taken e =
-        record {
-          letter = (member_mem a letters).0 (not-false (member a letters) (sym knows ∙ ne_eqb (get_or counts a 0) 255 e));
-          last = λ q. only.may;
-        }
+    pub last_taken : member a letters ≡ true → NextLetter cuts n letters level row a
+    last_taken e = record { letter = (member_mem a letters).0 e; last = λ q. only.may }
 
-    pub last_row : (get_or counts a 0 ≡ 255 → ⊥) → (r : Kept)
+    pub last_row : member a letters ≡ true → (r : Option Kept)
         → r ≡ kept p n (keep_all (tried cuts p n) (key_of p n) (best_as n b) (completions letters (take level row ++ a ∷ []) (n - (level + 1)))) → r ≡ kept p n kept_all
     last_row e r h =
         h

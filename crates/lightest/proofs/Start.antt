@@ -1,14 +1,15 @@
 -- The start of the walk: the letters are the candidates, ascending, and what the walk keeps at the end is the lightest row.
 -- Assumes nothing.
-use mathlib.Core.Path.{◌≡◌, refl, sym, ap, subst, subst⁻¹, ◌∙◌}
+use mathlib.Core.Path.{◌≡◌, refl, sym, ap, subst, ◌∙◌}
 use mathlib.Core.Bool.{false, cond}
 use mathlib.Core.List.Memᴰ
-use mathlib.Core.List.{List, [], Memᴰ}
+use mathlib.Core.List.{List, [], ◌++◌, Memᴰ}
 use Prim.Native.Nat.{ℕ, ◌+◌, ◌-◌, ◌≤◌, ◌<◌, ◌^◌}
 use native.Mathlib.Omega.{arith}
-use lib.ListN.{length, get_or, take, drop, replicate, length-replicate, get_or-replicate, replicate-append-replicate, get_or-append}
-use lib.Pow.{pow_pos}
+use lib.ListN.{length, get_or, take, drop, replicate, length-replicate, replicate-append-replicate, get_or-append}
 use lib.Seq.{drop_at}
+use Rattle.std.specs.Prelude.{Option, Some, None}
+use Rattle.std.proofs.lemmas.Option.{none-some}
 use Rattle.algebra.specs.Matrix.{words}
 use Rattle.algebra.proofs.Words.{tabulate_cong}
 use Rattle.algebra.proofs.Symmetry.{same_bool}
@@ -25,16 +26,10 @@ use Rattle.rows.proofs.Rows.{member_mem, mem_ascending, mem_rows, sorted_rows, g
 use Rattle.rows.proofs.Lightest.{row_sorted}
 use Rattle.rows.proofs.Walk.{extend_all}
 use Rattle.lightest.specs.declared.Best.{Best as Kept}
-use Rattle.lightest.specs.declared.letters.Letters.{Letters}
 use Rattle.rows.specs.Candidates.{some_too_large, some_bad}
-use Rattle.lightest.specs.Steps.Prefix.{kept, best_as, AtPrefix}
-use Rattle.lightest.specs.Steps.Letters.{count_in, count_table, known, listed, least_count}
-use Rattle.lightest.proofs.LetterCounts.{member_fits, member_nonzero, known_ascending, listed_take}
-use Rattle.lightest.proofs.Prefixes.{Long}
-
--- nothing kept yet
-abbrev none : Kept
-none = record { found = false; row = replicate 8 0; count = 0; depth = 0 }
+use Rattle.lightest.specs.Steps.Prefix.{kept, best_as, Long, Brief, Reached}
+use Rattle.lightest.specs.Steps.Letters.{count_in, count_table, known, least_count}
+use Rattle.lightest.proofs.LetterCounts.{member_fits, member_nonzero, known_ascending}
 
 -- the places behind the row
 zeros : (n : ℕ) → n ≤ 8 → drop n (replicate {A = ℕ} 8 0) ≡ replicate (8 - n) 0
@@ -60,52 +55,52 @@ module _ (p n : ℕ) (h : Modulus p) (cs : List ℕ) (fits : some_too_large p cs
   unfolding count_table count_in
   table_same = tabulate_cong 256 _ _ (λ a l. ap (λ t. cond t (xor_count p a) 255) (member_same a))
 
-  module _ (counts : List ℕ) (r : Letters) (bound least : ℕ) (table : counts ≡ count_table p cs) (size : bound ≡ 2 ^ degree p) (are : r ≡ listed (known counts bound))
-      (lowest : least ≡ least_count counts (take r.count r.list)) where
-    letters_are : take r.count r.list ≡ letters
+  module _ (counts : List ℕ) (list : List ℕ) (bound least : ℕ) (table : counts ≡ count_table p cs) (size : bound ≡ 2 ^ degree p) (are : list ≡ known counts bound)
+      (lowest : least ≡ least_count counts list) where
+    letters_are : list ≡ letters
     letters_are =
-        listed_take r (known counts bound) are
+        are
         ∙ ap (λ c. known c bound) table ∙ ap (known (count_table p cs)) size ∙ known_ascending p h cs (2 ^ degree p) (elements_most p h)
 
-    -- the walk starts
-    pub start_at : (cuts : Cuts) → cuts.Order n → 0 < n → n ≤ 8 → AtPrefix cuts p n (take r.count r.list) counts least 0 (replicate 8 0) 0 none
-    unfolding element_count total best_as kept
-    start_at cuts order some most =
+    -- what the search goes by
+    pub start_brief : (cuts : Cuts) → cuts.Order n → n ≤ 8 → Brief cuts p n list counts least
+    start_brief cuts order most =
         record {
-          brief =
-              record {
-                modulus = h;
-                order = order;
-                most = most;
-                below = λ a m. ((mem_ascending (2 ^ degree p) cs a).0 (subst (Memᴰ a) letters_are m)).1;
-                positive = λ a m. let some = member_nonzero cs fair a ((mem_ascending (2 ^ degree p) cs a).0 (subst (Memᴰ a) letters_are m)).0 in omega arith;
-                table = table ∙ table_same ∙ ap (count_table p) (sym letters_are);
-                lowest = lowest;
-              };
-          reached =
-              record {
-                eight = refl;
-                over = λ a m. absurd (Memᴰ.not-nil m);
-                stands = λ d l. absurd (omega arith);
-                counted = refl;
-                rest = zeros n most;
-              };
-          inside = some;
-          holds = refl;
+          modulus = h;
+          order = order;
+          most = most;
+          below = λ a m. ((mem_ascending (2 ^ degree p) cs a).0 (subst (Memᴰ a) letters_are m)).1;
+          positive = λ a m. let some = member_nonzero cs fair a ((mem_ascending (2 ^ degree p) cs a).0 (subst (Memᴰ a) letters_are m)).0 in omega arith;
+          table = table ∙ table_same ∙ ap (count_table p) (sym letters_are);
+          lowest = lowest;
         }
 
     -- what is kept at the end, where the rows that are tried are enough
-    pub start_answer : (cuts : Cuts) → lightest_row cuts.shape p n cs ≡ lightest (tried cuts p n) (key_of p n) (words letters n) → (b : Kept)
-        → b ≡ kept p n (keep_all (tried cuts p n) (key_of p n) (best_as n none) (completions (take r.count r.list) (take 0 (replicate 8 0)) (n - 0)))
+    pub start_answer : (cuts : Cuts) → lightest_row cuts.shape p n cs ≡ lightest (tried cuts p n) (key_of p n) (words letters n) → (b : Option Kept)
+        → b ≡ kept p n (keep_all (tried cuts p n) (key_of p n) (best_as n None) (completions list (take 0 (replicate 8 0)) (n - 0)))
         → b ≡ kept p n (lightest_row cuts.shape p n cs)
     unfolding best_as
     start_answer cuts enough b k =
         k
         ∙ ap (kept p n)
-        (ap (λ (m : ℕ). keep_all (tried cuts p n) (key_of p n) nothing (completions (take r.count r.list) [] m)) (omega arith)
+        (ap (λ (m : ℕ). keep_all (tried cuts p n) (key_of p n) nothing (completions list [] m)) (omega arith)
         ∙ ap (λ l. keep_all (tried cuts p n) (key_of p n) nothing (completions l [] n)) letters_are
         ∙ extend_all (tried cuts p n) (key_of p n) letters n
         ∙ sym enough)
+
+-- the search starts at the prefix without entries, and no row is kept
+pub start_reached : (cuts : Cuts) (p n : ℕ) (list : List ℕ) → n ≤ 8 → Reached cuts p n list 0 (replicate 8 0) 0
+unfolding element_count total
+start_reached cuts p n list most =
+    record { eight = refl; over = λ a m. absurd (Memᴰ.not-nil m); stands = λ d l. absurd (omega arith); counted = refl; rest = zeros n most }
+
+pub none_kept : (p n : ℕ) → ◌≡◌ {A = Option Kept} None (kept p n (best_as n None))
+unfolding best_as kept
+none_kept p n = refl
+
+pub none_long : (n : ℕ) → Long n (best_as n None)
+unfolding best_as
+none_long n r e = absurd (let z : ◌≡◌ {A = ℕ} 0 1 = cc in omega arith)
 
 -- ---- the answer
 
@@ -121,12 +116,13 @@ module _ (shape : Shape) (p n : ℕ) (cs : List ℕ) where
   row_long r e = (row_is r e).0
 
   -- so is the array of the row kept
-  pub row_in_field : n ≤ 8 → (b : Kept) → b ≡ kept p n (lightest_row shape p n cs) → WordsInField p n b.row
+  pub row_in_field : n ≤ 8 → (b : Kept) → Some b ≡ kept p n (lightest_row shape p n cs) → WordsInField p n b.row
   unfolding WordsInField
-  row_in_field most b e j l = subst⁻¹ (λ (x : Kept). get_or x.row j 0 < 2 ^ degree p) e (go (lightest_row shape p n cs) refl)
+  row_in_field most b e j l = go (lightest_row shape p n cs) refl e
     where
-      go : (best : Best) → lightest_row shape p n cs ≡ best → get_or (kept p n best).row j 0 < 2 ^ degree p
-      go nothing q = unfold kept in (rw (get_or-replicate {A = ℕ} 8 j 0 0 (omega arith)) (pow_pos (degree p)))
-      go (found r) q =
+      go : (best : Best) → lightest_row shape p n cs ≡ best → Some b ≡ kept p n best → get_or b.row j 0 < 2 ^ degree p
+      go nothing q f = unfold kept in absurd (none-some b (sym f))
+      go (found r) q f =
           let (long, below) = row_is r q in
-          unfold kept in (rw (get_or-append r (replicate (8 - n) 0) 0 j (omega arith)) (below (get_or r j 0) (get_d_mem r j 0 (omega arith))))
+          let same : b.row ≡ r ++ replicate (8 - n) 0 = unfold kept in cc in
+          rw (same, get_or-append r (replicate (8 - n) 0) 0 j (omega arith)) (below (get_or r j 0) (get_d_mem r j 0 (omega arith)))

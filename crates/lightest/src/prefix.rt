@@ -1,190 +1,167 @@
 // The walk over the rows, entry by entry: each prefix is extended by the letters that can still lead to a lighter row.
 
-ghost use Rattle.std.specs.Prelude.{◌≡◌, true, cond, ◌++◌, ◌∷◌, [], ◌+◌, ◌-◌, ◌≤◌, get_or, take};
-ghost use Rattle.field.specs.Polynomial.{Modulus, Products};
-ghost use Rattle.lines.specs.Numbers.{WordsInField};
-ghost use Rattle.lines.specs.Steps.Figures.{ones_table, CountsOf, least_depth};
-ghost use Rattle.rows.specs.Lightest.{found, keep_all};
-ghost use Rattle.rows.specs.Shape.{shape_of, is_good};
-ghost use Rattle.rows.specs.Keys.{key_of};
-ghost use Rattle.cuts.specs.Steps.Cuts.{tried, Whole};
-ghost use Rattle.rows.specs.Steps.Walk.{completions};
-ghost use Rattle.cuts.specs.Steps.Families.{is_next_of, cuts_of};
-ghost use Rattle.lightest.specs.Steps.Prefix.{kept, best_as, is_heavier, is_heavy, AtPrefix, NextLetter};
+ghost use Rattle.std.specs.Prelude.{◌≡◌, ◌^◌, ◌<◌, ◌≤◌, ℕ};
+ghost use Rattle.lines.specs.Steps.Figures.{ones_table};
+ghost use Rattle.cuts.specs.Steps.Families.{cuts_of};
+ghost use Rattle.lightest.specs.Steps.Prefix.{is_heavier, Brief, brief_prop};
 
 use crate::Best;
 use cuts::hadamard;
+use field::table::Table;
+use lines::figure::Ones;
 use rows::Family;
 
+// What does not change during a search: what is searched for, the letters, which are nonzero elements, with their table of counts and the least
+// of these, and the table of the ones of all elements.
+#[derive(Clone, Copy)]
+pub struct Search<'t, 'a> {
+    pub family: Family,
+    pub order: usize,
+    pub table: Table<'t>,
+    pub letters: &'a [u8],
+    pub counts: &'a [u8; 256],
+    pub least: u32,
+    pub ones: &'a [u8; 2048],
+    ghost brief: { Brief (cuts_of family table.polynomial order) table.polynomial order letters.now counts.now least } by { brief_prop family table.polynomial order letters.now counts.now least },
+    ghost ones_hold: { ones.now ≡ ones_table table.polynomial },
+}
+
+// The first entries of a row, as many as the level says: the row with zeros behind them, and the sum of their counts.
+#[derive(Clone, Copy)]
+pub struct Prefix {
+    pub row: [u8; 8],
+    pub level: usize,
+    pub count: u32,
+}
+
 // Whether a row that counts at least the bound is heavier than the row kept.
-fn is_heavier(bound: u32, best: Best) -> bool
+fn is_heavier(bound: u32, best: Option<Best>) -> bool
     ensures { result ≡ is_heavier best bound }
 {
-    best.found && best.count < bound
+    best.is_some_and(|kept| kept.count < bound)
 }
 
-// Whether every row that begins with the first k entries of the array is heavier than the row kept, or as heavy and not shallower, by
-// what it counts at least and how deep it then is at least. Figures are added up only where the counts are equal.
-fn is_heavy(
-    p: u16,
-    n: usize,
-    ones: &[u8; 2048],
-    counts: &[u8; 256],
-    row: [u8; 8],
-    k: usize,
-    bound: u32,
-    best: Best,
-) -> bool
-    requires { Modulus p × (k ≤ n) × (n ≤ 8) × (bound ≤ 4095) × WordsInField p k row × CountsOf p k counts.now row × (ones.now ≡ ones_table p) }
-    ensures { result ≡ is_heavy best bound (least_depth p n (λ j. get_or row j 0) k bound) }
-{
-    if !best.found {
-        return false;
-    }
-    if best.count != bound {
-        return best.count < bound;
-    }
-    best.depth <= lines::figure::least_depth(p, ones, counts, row, k, n, bound)
-}
+impl<'t, 'a> Search<'t, 'a> {
+    ghost use Rattle.std.specs.Prelude.{◌≡◌, true, cond, ◌++◌, ◌∷◌, [], ◌+◌, ◌-◌, ◌≤◌, get_or, take};
+    ghost use Rattle.lines.specs.Numbers.{WordsInField};
+    ghost use Rattle.lines.specs.Steps.Figures.{CountsOf, least_depth};
+    ghost use Rattle.rows.specs.Lightest.{found, member};
+    ghost use Rattle.rows.specs.Shape.{shape_of, is_good};
+    ghost use Rattle.cuts.specs.Steps.Cuts.{Whole};
+    ghost use Rattle.cuts.specs.Steps.Families.{is_next_of};
+    ghost use Rattle.lightest.specs.Steps.Prefix.{kept, best_as, is_heavy};
+    ghost use Rattle.lightest.specs.Steps.Search.{cuts_in, At, Next, bound_at, kept_behind};
 
-// The row with what its figure tells, where it is good; else the row kept before.
-fn finish(
-    family: Family,
-    p: u16,
-    products: &[u8; 65536],
-    n: usize,
-    ones: &[u8; 2048],
-    counts: &[u8; 256],
-    row: [u8; 8],
-    best: Best,
-) -> Best
-    requires { Whole (cuts_of family p n) p n row × CountsOf p n counts.now row × (ones.now ≡ ones_table p) × (best ≡ kept p n (best_as n best)) × Products p products.now }
-    ensures { result ≡ kept p n (cond (is_good (shape_of family) p n (take n row)) (found (take n row)) (best_as n best)) }
-{
-    if cuts::is_good(family, p, products, n, row) {
-        let figure = lines::figure::line_figure(p, ones, counts, row, n);
-        let row_ones = figure.ones;
-        Best {
-            found: true,
+    // The count of a letter.
+    fn count_of(&self, a: u8) -> u32
+        ensures { result ≡ get_or self.now.counts.now a 0 }
+    {
+        u32::from(self.counts[usize::from(a)])
+    }
+
+    // Whether a number is one of the letters.
+    fn is_letter(&self, a: u8) -> bool
+        ensures { result ≡ member a self.now.letters.now }
+    {
+        self.counts[usize::from(a)] != 255
+    }
+
+    // Whether every row that begins with these entries is heavier than the row kept, or as heavy and not shallower, by what it counts at
+    // least and how deep it then is at least. Figures are added up only where the counts are equal.
+    fn is_heavy(&self, at: Prefix, bound: u32, best: Option<Best>) -> bool
+        requires { let s = self.now in let p = s.table.polynomial in (at.level ≤ s.order) × (bound ≤ 4095) × WordsInField p at.level at.row × CountsOf p at.level s.counts.now at.row }
+        ensures { let s = self.now in result ≡ is_heavy best bound (least_depth s.table.polynomial s.order (λ j. get_or at.row j 0) at.level bound) }
+    {
+        let Some(kept) = best else {
+            return false;
+        };
+        if kept.count != bound {
+            return kept.count < bound;
+        }
+        let ones = Ones {
+            polynomial: self.table.polynomial,
+            ones: self.ones,
+        };
+        kept.depth <= ones.least_depth(self.counts, at.row, at.level, self.order, bound)
+    }
+
+    // The row is kept, with what its figure tells, where it is good.
+    fn finish(&self, row: [u8; 8], best: &mut Option<Best>)
+        requires { let s = self.now in let p = s.table.polynomial in let n = s.order in Whole (cuts_in s) p n row × CountsOf p n s.counts.now row × (best.old ≡ kept p n (best_as n best.old)) }
+        ensures { let s = self.now in let p = s.table.polynomial in let n = s.order in best.new ≡ kept p n (cond (is_good (shape_of s.family) p n (take n row)) (found (take n row)) (best_as n best.old)) }
+    {
+        if cuts::is_good(self.family, &self.table, self.order, row) {
+            let ones = Ones {
+                polynomial: self.table.polynomial,
+                ones: self.ones,
+            };
+            let figure = ones.line_figure(self.counts, row, self.order);
+            *best = Some(Best {
+                row,
+                depth: figure.depth(),
+                count: figure.count,
+            });
+        }
+    }
+
+    // All rows that begin with the prefix and the letter a are looked at.
+    #[cycle(branch_extend_grow)]
+    fn branch(&self, at: Prefix, a: u8, best: &mut Option<Best>)
+        requires { At self.now at best.old × Next self.now at a }
+        ensures { best.new ≡ kept_behind self.now best.old (take at.level at.row ++ a ∷ []) (self.now.order - (at.level + 1)) }
+    {
+        if !cuts::is_next(self.family, self.order, at.row, at.level, a) {
+            return;
+        }
+        let left = self.order - (at.level + 1);
+        let bound = at.count + self.count_of(a) + self.least * left as u32;
+        if is_heavier(bound, *best) {
+            return;
+        }
+        self.grow(at, a, bound, best);
+    }
+
+    // The same where the letter comes next by the order.
+    #[cycle(branch_extend_grow)]
+    fn grow(&self, at: Prefix, a: u8, bound: u32, best: &mut Option<Best>)
+        requires { At self.now at best.old × Next self.now at a × (is_next_of self.now.family self.now.order (take at.level at.row) a ≡ true) × (bound ≡ bound_at self.now at a) }
+        ensures { best.new ≡ kept_behind self.now best.old (take at.level at.row ++ a ∷ []) (self.now.order - (at.level + 1)) }
+    {
+        let mut row = at.row;
+        row[at.level] = a;
+        let next = Prefix {
             row,
-            depth: lines::figure::depth(row_ones),
-            count: figure.count,
+            level: at.level + 1,
+            count: at.count + self.count_of(a),
+        };
+        if self.is_heavy(next, bound, *best) {
+            return;
         }
-    } else {
-        best
-    }
-}
-
-// The row kept after all rows that begin with the prefix and the letter a.
-#[cycle(branch_extend_grow)]
-fn branch(
-    family: Family,
-    p: u16,
-    products: &[u8; 65536],
-    n: usize,
-    letters: &[u8],
-    ones: &[u8; 2048],
-    counts: &[u8; 256],
-    least: u32,
-    level: usize,
-    prefix: [u8; 8],
-    count: u32,
-    a: u8,
-    best: Best,
-) -> Best
-    requires { AtPrefix (cuts_of family p n) p n letters.now counts.now least level prefix count best × NextLetter (cuts_of family p n) n letters.now level prefix a × Products p products.now × (ones.now ≡ ones_table p) }
-    ensures { result ≡ kept p n (keep_all (tried (cuts_of family p n) p n) (key_of p n) (best_as n best) (completions letters.now (take level prefix ++ a ∷ []) (n - (level + 1)))) }
-{
-    if !cuts::is_next(family, n, prefix, level, a) {
-        return best;
-    }
-    let next = level + 1;
-    let bound = count + counts[a as usize] as u32 + least * (n - next) as u32;
-    if is_heavier(bound, best) {
-        return best;
-    }
-    grow(
-        family, p, products, n, letters, ones, counts, least, level, prefix, count, a, best,
-    )
-}
-
-// The same where the letter comes next by the order.
-#[cycle(branch_extend_grow)]
-fn grow(
-    family: Family,
-    p: u16,
-    products: &[u8; 65536],
-    n: usize,
-    letters: &[u8],
-    ones: &[u8; 2048],
-    counts: &[u8; 256],
-    least: u32,
-    level: usize,
-    prefix: [u8; 8],
-    count: u32,
-    a: u8,
-    best: Best,
-) -> Best
-    requires { AtPrefix (cuts_of family p n) p n letters.now counts.now least level prefix count best × NextLetter (cuts_of family p n) n letters.now level prefix a × (is_next_of family n (take level prefix) a ≡ true) × Products p products.now × (ones.now ≡ ones_table p) }
-    ensures { result ≡ kept p n (keep_all (tried (cuts_of family p n) p n) (key_of p n) (best_as n best) (completions letters.now (take level prefix ++ a ∷ []) (n - (level + 1)))) }
-{
-    let next = level + 1;
-    let total = count + counts[a as usize] as u32;
-    let mut row = prefix;
-    row[level] = a;
-    let bound = total + least * (n - next) as u32;
-    if is_heavy(p, n, ones, counts, row, next, bound, best) {
-        return best;
-    }
-    if !cuts::blocks_pass(family, p, products, n, row, level) {
-        return best;
-    }
-    if next == n {
-        finish(family, p, products, n, ones, counts, row, best)
-    } else {
-        extend(
-            family, p, products, n, letters, ones, counts, least, next, row, total, best,
-        )
-    }
-}
-
-// The row kept after all rows that begin with the prefix. Where the last letter is forced, it alone is looked at.
-#[cycle(branch_extend_grow)]
-pub fn extend(
-    family: Family,
-    p: u16,
-    products: &[u8; 65536],
-    n: usize,
-    letters: &[u8],
-    ones: &[u8; 2048],
-    counts: &[u8; 256],
-    least: u32,
-    level: usize,
-    prefix: [u8; 8],
-    count: u32,
-    best: Best,
-) -> Best
-    requires { AtPrefix (cuts_of family p n) p n letters.now counts.now least level prefix count best × Products p products.now × (ones.now ≡ ones_table p) }
-    ensures { result ≡ kept p n (keep_all (tried (cuts_of family p n) p n) (key_of p n) (best_as n best) (completions letters.now (take level prefix) (n - level))) }
-{
-    if cuts::is_forced(family, level + 1 == n) {
-        let a = hadamard::last_letter(prefix, level);
-        if counts[a as usize] == 255 {
-            return best;
+        if !cuts::blocks_pass(self.family, &self.table, self.order, row, at.level) {
+            return;
         }
-        return branch(
-            family, p, products, n, letters, ones, counts, least, level, prefix, count, a, best,
-        );
+        if next.level == self.order {
+            self.finish(row, best);
+        } else {
+            self.extend(next, best);
+        }
     }
-    let mut held = best;
-    let mut i = 0;
-    while i < letters.len() {
-        let a = letters[i];
-        let next = branch(
-            family, p, products, n, letters, ones, counts, least, level, prefix, count, a, held,
-        );
-        held = next;
-        i += 1;
+
+    // All rows that begin with the prefix are looked at. Where the last letter is forced, it alone is.
+    #[cycle(branch_extend_grow)]
+    pub fn extend(&self, at: Prefix, best: &mut Option<Best>)
+        requires { At self.now at best.old }
+        ensures { best.new ≡ kept_behind self.now best.old (take at.level at.row) (self.now.order - at.level) }
+    {
+        if cuts::is_forced(self.family, at.level + 1 == self.order) {
+            let a = hadamard::last_letter(at.row, at.level);
+            if self.is_letter(a) {
+                self.branch(at, a, best);
+            }
+            return;
+        }
+        for &a in self.letters {
+            self.branch(at, a, best);
+        }
     }
-    held
 }

@@ -8,7 +8,8 @@ use native.Mathlib.Numerals.{add-one}
 use native.Mathlib.Omega.{arith}
 use lib.Bits.{bit_xor}
 use lib.ListN.{length, get_or, take, set, replicate, length-append, length-replicate, get_or-replicate, get_or-append}
-use lib.Seq.{ext_get_or, take-suc, get_or-append-add}
+use lib.Seq.{ext_get_or, take-suc, get_or-take, length-take-le, get_or-append-add}
+use Rattle.std.proofs.Common.{length-take}
 use Rattle.algebra.specs.Matrix.{tabulate, sum}
 use Rattle.algebra.proofs.Words.{stored_more, length_tabulate, get_d_tabulate, tabulate_add}
 use Rattle.algebra.proofs.Sums.{le_or_lt}
@@ -53,6 +54,15 @@ module _ {A : Type 0} (size : ℕ) (z : A) (f : ℕ → A) where
       last : tabulate i f ++ tabulate 1 (λ j. f (i + j)) ≡ tabulate i f ++ (v ∷ [])
       last = unfold tabulate in (rw (d, add-zero) refl)
 
+-- a place among the first n
+pub front_at : {A : Type 0} (n i : ℕ) (line : List A) (d : A) → i < length (take n line) → (i < n) × (get_or (take n line) i d ≡ get_or line i d)
+front_at n i line d l =
+    let below : i < n = omega (arith, length-take n line, l) in
+    (below, get_or-take n line i d below)
+
+pub front_length : {A : Type 0} (n : ℕ) (line : List A) → n ≤ 8 → length line ≡ 8 → length (take n line) ≡ n
+front_length n line l e = length-take-le n line (omega (arith, l, e))
+
 -- ---- arrays of eight
 
 module _ {A : Type 0} (z : A) (f : ℕ → A) where
@@ -78,6 +88,13 @@ module _ {A : Type 0} (z : A) (f : ℕ → A) where
       ext_get_or d r (filled z f n) (e ∙ sym (length_filled n l)) (λ i h.
       ⊎_elim (λ (m : n ≤ i). behind i m (omega arith) ∙ sym (get_d_behind n i m (omega arith) d))
       (λ (m : i < n). first i m ∙ sym (get_d_filled n i m d)) (le_or_lt n i))
+
+  -- all eight elements
+  pub eight_of : (r : List A) (d : A) → length r ≡ 8 → ((i : ℕ) → i < 8 → get_or r i d ≡ f i) → r ≡ tabulate 8 f
+  eight_of r d e all =
+      ext_get_or d r (tabulate 8 f) (e ∙ sym (length_tabulate 8 f)) (λ i h.
+      let l : i < 8 = omega arith in
+      all i l ∙ sym (get_d_tabulate 8 f i d l))
 
   pub filled_more : (i : ℕ) (r : List A) (v : A) → i < 8 → r ≡ filled z f i → v ≡ f i → set r i v ≡ filled z f (i + 1)
   filled_more = filled_to_more 8 z f

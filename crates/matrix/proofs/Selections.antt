@@ -3,7 +3,7 @@ use mathlib.Core.Path.{◌≡◌, refl, sym, ap, ◌∙◌}
 use mathlib.Core.List.{List, [], ◌∷◌, ◌++◌, map, append-nil, append_assoc}
 use mathlib.Core.Logic.{⊎_elim}
 use Prim.Native.Nat.{ℕ, zero, suc, ◌+◌, ◌-◌, ◌*◌, ◌/◌, ◌%◌, ◌^◌, ◌≤◌, ◌<◌}
-use native.Mathlib.Nat.{not-suc-le-zero, le_of_suc-le-suc, lt_of_lt_of_le, eq-or-lt_of_le, lt_of_le_of_lt, pos_of_ne-zero, pow-suc, add-zero, zero-add, suc-add, one-mul, mod-eq_of_lt}
+use native.Mathlib.Nat.{not-suc-le-zero, le_of_suc-le-suc, lt_of_lt_of_le, eq-or-lt_of_le, lt_of_le_of_lt, pow-suc, add-zero, zero-add, suc-add, one-mul, mod-eq_of_lt, div-one, div-div-eq-div-mul}
 use native.Mathlib.Numerals.{add-one}
 use native.Mathlib.Omega.{arith}
 use lib.Bits.{bit_and, and_mask}
@@ -11,7 +11,7 @@ use lib.Count.{ones, ones_in, ones_step}
 use lib.Dec.{lit<}
 use lib.Pow.{pow_mono}
 use lib.ListN.{length, get_or, take, set, replicate, length-map, length-set, get_or-replicate}
-use lib.Seq.{length-take-le, take-set-le, take-suc-set, get_or-take, get_or-set_other}
+use lib.Seq.{length-take-le, take-set-le, take-suc-set, get_or-take, get_or-set_other, get_or-set_same}
 use Rattle.algebra.specs.Matrix.{at_digit, places_from, chosen}
 use Rattle.field.proofs.Sum.{at_digit_holds}
 use Rattle.lines.specs.Numbers.{entry}
@@ -34,41 +34,25 @@ get_d_mapped f [] j d h = absurd (not-suc-le-zero h)
 get_d_mapped f (a ∷ l) zero d h = refl
 get_d_mapped f (a ∷ l) (suc j) d h = get_d_mapped f l j d (le_of_suc-le-suc h)
 
--- in a turn of the walk
-pub record Inside (rest i k : ℕ) : Type 0 where
-  pub place : i < 8
-  pub store : k < 8
-  pub digit : bit_and rest 1 < 2
-
 module _ {A : Type 0} (source : List A) (d z : A) where
   -- the elements at the places
   abbrev pub picked : List ℕ → List A
   picked places = map (λ j. get_or source j d) places
 
-  -- A walk over the digits of a mask: `rest` has the digits from place i on, and r has the chosen elements below it at its first k places.
-  -- Behind them stands z, but for place k, which holds an element that is not chosen until a chosen one comes.
-  pub record Walk (mask : ℕ) (r : List A) (rest i k : ℕ) : Type 0 where
-    pub left : ℕ
-    pub places : i + left ≡ 8
-    pub below : rest < 2 ^ left
-    pub few : k ≤ i
+  -- A walk over the eight digits of a mask: r has the chosen elements before place i at its first k places. Behind them stands z, but at
+  -- place k, where an element may stand that is not chosen.
+  pub record Walk (mask : ℕ) (r : List A) (i k : ℕ) : Type 0 where
     pub size : length r ≡ 8
-    pub stored : take k r ++ picked (places_from i left rest) ≡ picked (chosen 8 mask)
+    pub stored : take k r ++ picked (places_from i (8 - i) (mask / 2 ^ i)) ≡ picked (chosen 8 mask)
     pub behind : (j : ℕ) → k < j → j < 8 → get_or r j d ≡ z
-    pub last : rest ≡ 0 → k < 8 → get_or r k d ≡ z
 
-  pub walk_begins : (mask : ℕ) → mask < 256 → Walk mask (replicate 8 z) mask 0 0
+  pub walk_begins : (mask : ℕ) → Walk mask (replicate 8 z) 0 0
   unfolding chosen
-  walk_begins mask h =
+  walk_begins mask =
       record {
-        left = 8;
-        places = refl;
-        below = h;
-        few = omega arith;
         size = refl;
-        stored = refl;
+        stored = ap (λ (x : ℕ). picked (places_from 0 8 x)) (div-one mask);
         behind = λ j l m. get_or-replicate 8 j z d m;
-        last = λ e l. refl;
       }
 
   -- one digit: the element is stored, and stays if the digit is 1
@@ -85,59 +69,68 @@ module _ {A : Type 0} (source : List A) (d z : A) where
       oneth : take (k + 1) (set r k a) ++ picked tail ≡ take k r ++ (a ∷ picked tail)
       oneth = rw (add-one k, take-suc-set r k a h) (append_assoc (take k r) (a ∷ []) (picked tail))
 
-  module _ (mask : ℕ) (r : List A) (rest i k : ℕ) (w : Walk mask r rest i k) where
-    -- while a one is left, the places are within the list
-    pub walk_inside : (rest ≡ 0 → ⊥) → Inside rest i k
-    walk_inside h = record { place = at; store = omega (arith, at, w.few); digit = rw (low_digit rest) (omega arith) }
+  module _ (mask : ℕ) (r : List A) (i k : ℕ) (few : k ≤ i) (w : Walk mask r i k) where
+    pub walk_goes_on : i < 8 → Walk mask (set r k (get_or source i d)) (i + 1) (k + bit_and (mask / 2 ^ i) 1)
+    walk_goes_on h =
+        rw (low_digit rest)
+        record {
+          size = length-set r k (get_or source i d) ∙ w.size;
+          stored = ap (λ x. take (k + rest % 2) (set r k (get_or source i d)) ++ picked x) next
+              ∙ one_digit r k i rest tail (omega (arith, w.size)) ∙ ap (λ x. take k r ++ picked x) (sym here) ∙ w.stored;
+          behind = λ j m q.
+              get_or-set_other r k j (get_or source i d) d (λ (e : j ≡ k). omega arith) ∙ w.behind j (omega arith) q;
+        }
       where
-        within : (n : ℕ) → i + n ≡ 8 → rest < 2 ^ n → i < 8
-        within zero e l = let z : rest ≡ 0 = omega arith in absurd (h z)
-        within (suc n) e l = omega arith
+        rest : ℕ
+        rest = mask / 2 ^ i
 
-        at : i < 8
-        at = within w.left w.places w.below
+        -- the places of the digits behind
+        tail : List ℕ
+        tail = places_from (suc i) (7 - i) (rest / 2)
 
-    untouched : (j : ℕ) → k < j → j < 8 → get_or (set r k (get_or source i d)) j d ≡ z
-    untouched j l h = get_or-set_other r k j (get_or source i d) d (λ (e : j ≡ k). omega arith) ∙ w.behind j l h
+        here : places_from i (8 - i) rest ≡ at_digit (rest % 2) i tail
+        here =
+            let e : 8 - i ≡ suc (7 - i) = omega arith in
+            ap (λ (n : ℕ). places_from i n rest) e ∙ unfold places_from in refl
 
-    pub walk_goes_on : (rest ≡ 0 → ⊥) → Walk mask (set r k (get_or source i d)) (rest / 2) (i + 1) (k + bit_and rest 1)
-    walk_goes_on h = goes w.left w.places w.below w.stored
+        next : places_from (i + 1) (8 - (i + 1)) (mask / 2 ^ (i + 1)) ≡ tail
+        next =
+            let e : 8 - suc i ≡ 7 - i = omega arith in
+            rw (add-one i, e, pow-suc 2 i, ← div-div-eq-div-mul mask (2 ^ i) 2) refl
+
+    -- behind the last digit, the chosen elements are stored; z is put where an element stands that is not chosen
+    walk_ends : i ≡ 8 → (s : List A) → length s ≡ 8 → ((j : ℕ) → j < k → get_or s j d ≡ get_or r j d)
+        → ((j : ℕ) → k ≤ j → j < 8 → get_or s j d ≡ z)
+        → s ≡ filled z (λ j. get_or source (get_or (chosen 8 mask) j 0) d) (length (chosen 8 mask))
+    walk_ends o s e same others = filled_of z _ k s d (omega arith) e first others ∙ ap (filled z (λ j. get_or source (get_or (chosen 8 mask) j 0) d)) count
       where
-        goes : (n : ℕ) → i + n ≡ 8 → rest < 2 ^ n → take k r ++ picked (places_from i n rest) ≡ picked (chosen 8 mask)
-            → Walk mask (set r k (get_or source i d)) (rest / 2) (i + 1) (k + bit_and rest 1)
-        goes zero e l s = let z : rest ≡ 0 = omega arith in absurd (h z)
-        goes (suc n) e l s =
-            rw (low_digit rest)
-            record {
-              left = n;
-              places = omega arith;
-              below = omega (arith, pow-suc 2 n);
-              few = omega (arith, w.few);
-              size = length-set r k (get_or source i d) ∙ w.size;
-              stored = rw (add-one i) (one_digit r k i rest (places_from (suc i) n (rest / 2)) (omega (arith, w.few, w.size)) ∙ unfold places_from in s);
-              behind = λ j m q. untouched j (omega arith) q;
-              last = λ e q. untouched (k + rest % 2) (omega (arith, pos_of_ne-zero h)) q;
-            }
+        none : places_from i (8 - i) (mask / 2 ^ i) ≡ []
+        none = rw o (unfold places_from in refl)
 
-    -- where no one is left, the chosen elements are stored, and z behind them
-    pub walk_ends : rest ≡ 0 → r ≡ filled z (λ j. get_or source (get_or (chosen 8 mask) j 0) d) (length (chosen 8 mask))
-    walk_ends o = filled_of z _ k r d (omega (arith, w.few, w.places)) w.size first others ∙ ap (filled z _) count
-      where
         all : take k r ≡ picked (chosen 8 mask)
         all =
             sym (append-nil (take k r))
-            ∙ ap (λ x. take k r ++ picked x) (sym (ap (places_from i w.left) o ∙ places_none i w.left))
+            ∙ ap (λ x. take k r ++ picked x) (sym none)
             ∙ w.stored
 
         count : k ≡ length (chosen 8 mask)
-        count = sym (length-take-le k r (omega (arith, w.few, w.places, w.size))) ∙ ap length all ∙ length-map (chosen 8 mask) (λ j. get_or source j d)
+        count = sym (length-take-le k r (omega (arith, w.size))) ∙ ap length all ∙ length-map (chosen 8 mask) (λ (j : ℕ). get_or source j d)
 
-        first : (j : ℕ) → j < k → get_or r j d ≡ get_or source (get_or (chosen 8 mask) j 0) d
+        first : (j : ℕ) → j < k → get_or s j d ≡ get_or source (get_or (chosen 8 mask) j 0) d
         first j l =
-            sym (get_or-take k r j d l) ∙ ap (λ x. get_or x j d) all ∙ get_d_mapped (λ n. get_or source n d) (chosen 8 mask) j d (omega (arith, count))
+            same j l ∙ sym (get_or-take k r j d l) ∙ ap (λ x. get_or x j d) all
+            ∙ get_d_mapped (λ n. get_or source n d) (chosen 8 mask) j d (omega (arith, count))
 
-        others : (j : ℕ) → k ≤ j → j < 8 → get_or r j d ≡ z
-        others j l m = ⊎_elim (λ (e : k ≡ j). rw (← e) (w.last o (omega arith))) (λ (q : k < j). w.behind j q m) (eq-or-lt_of_le l)
+    pub walk_cleared : i ≡ 8 → k < 8 → set r k z ≡ filled z (λ j. get_or source (get_or (chosen 8 mask) j 0) d) (length (chosen 8 mask))
+    walk_cleared o h = walk_ends o (set r k z) (length-set r k z ∙ w.size) (λ j l. get_or-set_other r k j z d (λ (e : j ≡ k). omega arith)) others
+      where
+        others : (j : ℕ) → k ≤ j → j < 8 → get_or (set r k z) j d ≡ z
+        others j l m =
+            ⊎_elim (λ (e : k ≡ j). rw (← e) (get_or-set_same r k z d (omega (arith, w.size))))
+            (λ (q : k < j). get_or-set_other r k j z d (λ (e : j ≡ k). omega arith) ∙ w.behind j q m) (eq-or-lt_of_le l)
+
+    pub walk_full : i ≡ 8 → 8 ≤ k → r ≡ filled z (λ j. get_or source (get_or (chosen 8 mask) j 0) d) (length (chosen 8 mask))
+    walk_full o h = walk_ends o r w.size (λ j l. refl) (λ j l m. let n : ⊥ = omega arith in absurd n)
 
 -- ---- masks of fewer digits
 

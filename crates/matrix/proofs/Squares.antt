@@ -4,13 +4,16 @@ use mathlib.Core.Path.{◌≡◌, refl, sym, ap, ap₂, ◌∙◌}
 use mathlib.Core.Bool.{Bool, true, false, not, ◌&&◌, ◌||◌, false≢true, true≢false}
 use mathlib.Core.List.{List, Memᴰ}
 use mathlib.Core.Logic.{⊎_elim}
-use Prim.Native.Nat.{ℕ, zero, suc, ◌+◌, ◌/◌, ◌^◌, ◌≤◌, ◌<◌, suc-le-suc}
+use Prim.Native.Nat.{ℕ, zero, suc, ◌+◌, ◌-◌, ◌/◌, ◌^◌, ◌≤◌, ◌<◌, suc-le-suc}
 use native.Mathlib.Nat.{not-suc-le-zero, le_of_suc-le-suc, le_refl, le-suc, le_trans, eq-or-lt_of_le}
+use native.Mathlib.Numerals.{add-one}
 use native.Mathlib.Omega.{arith}
 use lib.Dec.{eqb, ltb}
 use lib.ListN.{length, get_or}
-use borrow.Author.Count.{below_more}
-use borrow.Author.Tests.{ltb-false, le-ltb, eqb-true, eq-eqb, not-true, not-false}
+use Rattle.std.proofs.lemmas.List.FromFn.{length-range_with_len, get_or-range_with_len}
+use Rattle.std.specs.Prelude.{MatchBool}
+use Rattle.std.specs.List.{range_with_len, AllWithin, HoldsAt}
+use borrow.Author.Tests.{ltb-false, le-ltb, eqb-true, eq-eqb, not-false}
 use Rattle.algebra.specs.Operations.{Operations}
 use Rattle.algebra.proofs.FieldLaws.{Field}
 use Rattle.algebra.specs.Matrix.{det, weight, activity, is_mds, is_involution, block, chosen}
@@ -42,6 +45,13 @@ unfolding every_below
 each_every zero test h = refl
 each_every (suc n) test h = rw (each_every n test (λ k l. h k (le_trans l (le-suc n))), h n (le_refl (suc n)))
 
+-- what `(0..n).all(..)` tells: `search` takes what came at place k of a range where a list is read at k, and any list will do
+pub every_told : (row : List ℕ) (n : ℕ) (test : ℕ → Bool) (b : Bool)
+    → ((b ≡ true → (k : ℕ) → k < n → get_or row k 0 ≡ get_or row k 0 → test k ≡ true) × (((k : ℕ) → k < n → test k ≡ true) → b ≡ true))
+    → b ≡ every_below n test
+every_told row n test b h =
+    same_bool b (every_below n test) (λ e. each_every n test (λ k l. h.0 e k l refl)) (λ e. h.1 (every_each n test e))
+
 -- where one fails, not all pass
 pub every_not : (n : ℕ) (test : ℕ → Bool) (k : ℕ) → k < n → test k ≡ false → false ≡ every_below n test
 every_not n test k l e =
@@ -69,19 +79,31 @@ or_of false t h = h refl
 of_or : (a t : Bool) → (a || t) ≡ true → a ≡ false → t ≡ true
 of_or a t e q = rw q at e
 
--- a loop over them stops at one that fails, and goes on at one that passes
-module _ (test : ℕ → Bool) (k : ℕ) (t : Bool) (is : t ≡ test k) where
-  pub every_stops : (n : ℕ) → k < n → not t ≡ true → false ≡ every_below n test
-  every_stops n l e = every_not n test k l (sym is ∙ not-true t e)
-
-  pub every_goes : ((j : ℕ) → j < k → test j ≡ true) → not t ≡ false → (j : ℕ) → j < k + 1 → test j ≡ true
-  every_goes h e = below_more (λ j. test j ≡ true) k h (sym is ∙ not-false t e)
-
 -- tests that agree below n
 pub every_same : (n : ℕ) (f g : ℕ → Bool) → ((k : ℕ) → k < n → f k ≡ g k) → every_below n f ≡ every_below n g
 unfolding every_below
 every_same zero f g h = refl
 every_same (suc n) f g h = ap₂ ◌&&◌ (every_same n f g (λ k l. h k (omega arith))) (h n (omega arith))
+
+-- what an iterator's `all` over the numbers from a on, below b, tells: each passes, or one fails
+abbrev pub AllBetween : ℕ → ℕ → (ℕ → Bool) → Bool → Type 0
+AllBetween a b test t =
+    let xs : List ℕ = range_with_len a (b - a) in
+    MatchBool t (AllWithin (λ k. test k ≡ true) xs 0 (length xs)) ((i : ℕ) × (i < length xs) × HoldsAt (λ k. test k ≡ false) xs i)
+
+-- so it tells whether each below b passes that is not below a
+pub every_between : (a b : ℕ) (test : ℕ → Bool) (t : Bool) → AllBetween a b test t → t ≡ every_below b (λ k. ltb k a || test k)
+every_between a b test true h =
+    sym (each_every b _ (λ k l. or_of (ltb k a) (test k) (λ z. passes k l (ltb-false k a z))))
+  where
+    passes : (k : ℕ) → k < b → a ≤ k → test k ≡ true
+    passes k l m =
+        let e : a + (k - a) ≡ k = omega arith in
+        rw (get_or-range_with_len a (b - a) (k - a) 0 (omega arith), e) at (h (k - a) 0 (omega arith) (omega (arith, length-range_with_len a (b - a))))
+every_between a b test false h =
+    let less : h.0 < b - a = omega (arith, h.1, length-range_with_len a (b - a)) in
+    every_not b _ (a + h.0) (omega arith)
+    (rw (le-ltb (a + h.0) a (omega arith)) (rw (get_or-range_with_len a (b - a) h.0 0 less) at (h.2 0)))
 
 -- ---- the test of one block
 
@@ -134,6 +156,14 @@ module _ (K : Operations) (n : ℕ) (f : ℕ → ℕ → K.Element) where
       let sized = of_or (ltb k above) _ (every_each most _ e k a) (le-ltb k above (le_of_suc-le-suc z)) in
       of_regular (suc k) r s
       (of_or (not (is_looked_at look s)) _ (every_each (2 ^ n) _ (every_each (2 ^ n) _ sized s c) r b) (ap not q))
+
+  -- the same as an iterator's `all` over the sizes tells it
+  pub sizes_all : (look above most : ℕ) (t : Bool) → AllBetween above most (λ k. regular_of_size K n f look (k + 1)) t
+      → t ≡ regular_between K n f look above most
+  unfolding regular_between
+  sizes_all look above most t h =
+      every_between above most _ t h
+      ∙ every_same most _ _ (λ k l. ap (λ (i : ℕ). ltb k above || regular_of_size K n f look i) (add-one k))
 
   -- sizes of which every block is known to be regular need not be looked at
   pub sizes_known : (look above most : ℕ)

@@ -2,23 +2,20 @@
 
 ghost use Rattle.std.specs.Prelude.{◌≡◌, [], ◌-◌, ◌^◌, ◌≤◌, ◌<◌, length, get_or, replicate};
 ghost use Rattle.algebra.specs.Matrix.{skip, without, det, chosen, block};
-ghost use Rattle.field.specs.Polynomial.{◌⊕◌, Modulus, degree, product, Products};
+ghost use Rattle.field.specs.Polynomial.{◌⊕◌, degree, product};
 ghost use Rattle.lines.specs.Numbers.{numbers, entry, InField};
 ghost use Rattle.lines.specs.Steps.Blocks.{filled, framed};
-ghost use Rattle.matrix.specs.Steps.Choice.{is_looked_at, next_choice};
+ghost use Rattle.matrix.specs.Steps.Choice.{line_of, is_looked_at, next_choice};
 ghost use Rattle.matrix.specs.Steps.Regular.{regular_of_size, regular_between};
+
+use field::table::Table;
+use lines::array::filled;
 
 // The line without column j: what stands behind column j moves up, and 0 behind it.
 fn without_column(line: [u8; 8], j: usize) -> [u8; 8]
     ensures { result ≡ filled 0 (λ k. get_or line (skip j k) 0) 7 }
 {
-    let mut r = [0; 8];
-    let mut k = 0;
-    while k < 7 {
-        r[k] = if k < j { line[k] } else { line[k + 1] };
-        k += 1;
-    }
-    r
+    filled(0, 7, |k| if k < j { line[k] } else { line[k + 1] })
 }
 
 // The block that is left without line 0 and column j, and zeros elsewhere.
@@ -26,116 +23,92 @@ pub fn without(block: [[u8; 8]; 8], n: usize, j: usize) -> [[u8; 8]; 8]
     requires { (n ≤ 8) × (j < n) }
     ensures { result ≡ framed (n - 1) 7 (without (entry block) j) }
 {
-    let mut r = [[0u8; 8]; 8];
-    let mut i = 0;
-    while i + 1 < n {
-        let line = without_column(block[i + 1], j);
-        r[i] = line;
-        i += 1;
-    }
-    r
+    filled(
+        [0; 8],
+        n - 1,
+        |i|
+            requires { i < 7 }
+            ensures { result ≡ filled 0 (without (entry block) j i) 7 }
+        { without_column(block[i + 1], j) },
+    )
 }
 
 // The determinant of two lines in columns i and j.
-fn two_by_two(
-    p: u16,
-    products: &[u8; 65536],
-    upper: [u8; 8],
-    lower: [u8; 8],
-    i: usize,
-    j: usize,
-) -> u8
-    requires { (i < 8) × (j < 8) × (get_or upper i 0 < 2 ^ degree p) × (get_or upper j 0 < 2 ^ degree p) × Products p products.now }
-    ensures { result ≡ product p (get_or upper i 0) (get_or lower j 0) ⊕ product p (get_or upper j 0) (get_or lower i 0) }
+fn two_by_two(table: &Table, upper: [u8; 8], lower: [u8; 8], i: usize, j: usize) -> u8
+    requires { let p = table.now.polynomial in (i < 8) × (j < 8) × (get_or upper i 0 < 2 ^ degree p) × (get_or upper j 0 < 2 ^ degree p) }
+    ensures { let p = table.now.polynomial in
+        result ≡ product p (get_or upper i 0) (get_or lower j 0) ⊕ product p (get_or upper j 0) (get_or lower i 0) }
 {
-    field::times(p, products, upper[i], lower[j]) ^ field::times(p, products, upper[j], lower[i])
+    table.times(upper[i], lower[j]) ^ table.times(upper[j], lower[i])
 }
 
 // The determinant of a block of size 3, along the first line.
-fn three_by_three(p: u16, products: &[u8; 65536], block: [[u8; 8]; 8]) -> u8
-    requires { InField p 3 3 block × Products p products.now }
-    ensures { result ≡ det (numbers p) 3 (entry block) }
+#[tactic(auto, unfolding(lines::specs::Numbers::InField))]
+fn three_by_three(table: &Table, block: [[u8; 8]; 8]) -> u8
+    requires { InField table.now.polynomial 3 3 block }
+    ensures { result ≡ det (numbers table.now.polynomial) 3 (entry block) }
 {
-    let first = two_by_two(p, products, block[1], block[2], 1, 2);
-    let second = two_by_two(p, products, block[1], block[2], 0, 2);
-    let third = two_by_two(p, products, block[1], block[2], 0, 1);
-    let r = field::times(p, products, block[0][0], first);
-    let s = field::times(p, products, block[0][1], second);
-    r ^ s ^ field::times(p, products, block[0][2], third)
+    let first = two_by_two(table, block[1], block[2], 1, 2);
+    let second = two_by_two(table, block[1], block[2], 0, 2);
+    let third = two_by_two(table, block[1], block[2], 0, 1);
+    let r = table.times(block[0][0], first);
+    let s = table.times(block[0][1], second);
+    r ^ s ^ table.times(block[0][2], third)
 }
 
 // The determinant, expanded along the first line; that of the empty block is 1. Sizes up to 3 are done directly.
 #[cycle(determinant_first_line_sum)]
-pub fn determinant(p: u16, products: &[u8; 65536], block: [[u8; 8]; 8], n: usize) -> u8
-    requires { Modulus p × (n ≤ 8) × InField p n n block × Products p products.now }
-    ensures { result ≡ det (numbers p) n (entry block) }
+#[tactic(auto, unfolding(lines::specs::Numbers::InField))]
+pub fn determinant(table: &Table, block: [[u8; 8]; 8], n: usize) -> u8
+    requires { (n ≤ 8) × InField table.now.polynomial n n block }
+    ensures { result ≡ det (numbers table.now.polynomial) n (entry block) }
 {
-    if n == 0 {
-        return 1;
+    match n {
+        0 => 1,
+        1 => block[0][0],
+        2 => two_by_two(table, block[0], block[1], 0, 1),
+        3 => three_by_three(table, block),
+        _ => first_line_sum(table, block, n),
     }
-    if n == 1 {
-        return block[0][0];
-    }
-    if n == 2 {
-        return two_by_two(p, products, block[0], block[1], 0, 1);
-    }
-    if n == 3 {
-        return three_by_three(p, products, block);
-    }
-    first_line_sum(p, products, block, n)
 }
 
 // The sum over the first line: each entry times the determinant of the block left without that line and column.
 #[cycle(determinant_first_line_sum)]
-fn first_line_sum(p: u16, products: &[u8; 65536], block: [[u8; 8]; 8], n: usize) -> u8
-    requires { Modulus p × (1 ≤ n) × (n ≤ 8) × InField p n n block × Products p products.now }
-    ensures { result ≡ det (numbers p) n (entry block) }
+#[tactic(auto, unfolding(lines::specs::Numbers::InField))]
+fn first_line_sum(table: &Table, block: [[u8; 8]; 8], n: usize) -> u8
+    requires { (1 ≤ n) × (n ≤ 8) × InField table.now.polynomial n n block }
+    ensures { result ≡ det (numbers table.now.polynomial) n (entry block) }
 {
     let mut r: u8 = 0;
-    let mut j = 0;
-    while j < n {
-        let minor = determinant(p, products, without(block, n, j), n - 1);
-        r ^= field::times(p, products, block[0][j], minor);
-        j += 1;
+    for j in 0..n {
+        let minor = determinant(table, without(block, n, j), n - 1);
+        r ^= table.times(block[0][j], minor);
     }
     r
 }
 
-// The chosen columns of a line, and zeros behind them: each is stored, and the next overwrites one that is not chosen. The last is chosen.
-fn chosen_line(line: [u8; 8], columns: u16) -> [u8; 8]
-    requires { columns < 256 }
-    ensures { result ≡ filled 0 (λ j. get_or line (get_or (chosen 8 columns) j 0) 0) (length (chosen 8 columns)) }
+// The chosen elements of an array, and `empty` behind them: each is stored, and the next overwrites one that is not chosen.
+fn chosen<T: Copy>(empty: T, from: [T; 8], choice: u16) -> [T; 8]
+    ensures { (d : T) → result ≡ filled empty (λ j. get_or from (get_or (chosen 8 choice) j 0) d) (length (chosen 8 choice)) }
 {
-    let mut r = [0u8; 8];
-    let mut rest = columns;
-    let mut i = 0;
+    let mut r = [empty; 8];
     let mut k = 0;
-    while rest != 0 {
-        r[k] = line[i];
-        k += (rest & 1) as usize;
-        rest >>= 1;
-        i += 1;
+    for i in 0..8 {
+        r[k] = from[i];
+        k += usize::from(choice >> i & 1);
+    }
+    if k < 8 {
+        r[k] = empty;
     }
     r
 }
 
-// The chosen lines of a matrix, and zeros behind them, in the same way.
+// The chosen lines of a matrix, and zeros behind them.
 pub fn chosen_lines(m: [[u8; 8]; 8], lines: u16) -> [[u8; 8]; 8]
     requires { lines < 256 }
     ensures { result ≡ filled (replicate 8 0) (λ i. get_or m (get_or (chosen 8 lines) i 0) []) (length (chosen 8 lines)) }
 {
-    let mut r = [[0u8; 8]; 8];
-    let mut rest = lines;
-    let mut i = 0;
-    let mut k = 0;
-    while rest != 0 {
-        let line = m[i];
-        r[k] = line;
-        k += (rest & 1) as usize;
-        rest >>= 1;
-        i += 1;
-    }
-    r
+    chosen([0; 8], m, lines)
 }
 
 // The chosen columns of the first n lines, and zeros elsewhere.
@@ -143,14 +116,14 @@ pub fn chosen_columns(m: [[u8; 8]; 8], n: usize, columns: u16) -> [[u8; 8]; 8]
     requires { (n ≤ 8) × (columns < 256) }
     ensures { result ≡ framed n (length (chosen 8 columns)) (λ i j. entry m i (get_or (chosen 8 columns) j 0)) }
 {
-    let mut r = [[0u8; 8]; 8];
-    let mut i = 0;
-    while i < n {
-        let line = chosen_line(m[i], columns);
-        r[i] = line;
-        i += 1;
-    }
-    r
+    filled(
+        [0; 8],
+        n,
+        |i|
+            requires { i < 8 }
+            ensures { result ≡ filled 0 (λ j. entry m i (get_or (chosen 8 columns) j 0)) (length (chosen 8 columns)) }
+        { chosen(0, m[i], columns) },
+    )
 }
 
 // The next choice of as many lines or columns, in ascending order of the masks: the lowest group of ones is moved up by its highest
@@ -164,8 +137,29 @@ fn next_choice(mask: u16) -> u16
     next | ((mask ^ next) / low / 4)
 }
 
-// The choices below 256 that are looked at, for each way to look: choice s is digit s % 32 of number s / 32. Line 0: all choices; line 1:
-// those that no translation of the places makes smaller; line n: those that no rotation of the places below n, modulo n, makes smaller.
+// Which choices of columns are looked at: all of them; those that no translation of the places makes smaller; those that no rotation of the
+// places below n, modulo n, makes smaller, n from 2 to 8.
+#[derive(Clone, Copy)]
+pub enum Look {
+    All,
+    Translations,
+    Rotations(usize),
+}
+
+impl Look {
+    // The line of the table below.
+    fn line(self) -> usize
+        ensures { result ≡ line_of self }
+    {
+        match self {
+            Look::All => 0,
+            Look::Translations => 1,
+            Look::Rotations(n) => n,
+        }
+    }
+}
+
+// The choices below 256 that are looked at, a line for each way to look: choice s is digit s % 32 of number s / 32.
 const LEAST: [[u32; 8]; 9] = [
     [
         4294967295, 4294967295, 4294967295, 4294967295, 4294967295, 4294967295, 4294967295,
@@ -202,41 +196,30 @@ const LEAST: [[u32; 8]; 9] = [
     ],
 ];
 
-// Whether a choice of columns is looked at, the way `look`: 0 for all of them, 1 for those that no translation makes smaller, n from 2 to 8
-// for those that no rotation modulo n makes smaller.
-fn is_looked_at(look: usize, mask: u16) -> bool
-    requires { (mask < 256) × (look ≤ 8) }
-    ensures { result ≡ is_looked_at look mask }
+// Whether a choice of columns is looked at.
+fn is_looked_at(look: Look, mask: u16) -> bool
+    requires { (mask < 256) × (line_of look ≤ 8) }
+    ensures { result ≡ is_looked_at (line_of look) mask }
 {
-    LEAST[look][mask as usize / 32] >> (mask % 32) & 1 == 1
+    LEAST[look.line()][usize::from(mask) / 32] >> (mask % 32) & 1 == 1
 }
 
 // The next choice of as many columns that is looked at, or one of 256 or more.
-fn next_columns(look: usize, mask: u16) -> u16
-    requires { (1 ≤ mask) × (mask < 256) × (look ≤ 8) }
-    ensures { result ≡ next_choice look mask }
+fn next_columns(look: Look, mask: u16) -> u16
+    requires { (1 ≤ mask) × (mask < 256) × (line_of look ≤ 8) }
+    ensures { result ≡ next_choice (line_of look) mask }
 {
     let mut r = next_choice(mask);
-    while r < 256 {
-        if is_looked_at(look, r) {
-            return r;
-        }
+    while r < 256 && !is_looked_at(look, r) {
         r = next_choice(r);
     }
     r
 }
 
 // Whether every square block of size k is regular, of those whose columns are looked at. The first choice is one of them.
-pub fn regular_of_size(
-    p: u16,
-    products: &[u8; 65536],
-    m: [[u8; 8]; 8],
-    n: usize,
-    look: usize,
-    k: usize,
-) -> bool
-    requires { Modulus p × (n ≤ 8) × (1 ≤ k) × (k ≤ n) × InField p n n m × Products p products.now × (look ≤ 8) }
-    ensures { result ≡ regular_of_size (numbers p) n (entry m) look k }
+pub fn regular_of_size(table: &Table, m: [[u8; 8]; 8], n: usize, look: Look, k: usize) -> bool
+    requires { (n ≤ 8) × (1 ≤ k) × (k ≤ n) × InField table.now.polynomial n n m × (line_of look ≤ 8) }
+    ensures { result ≡ regular_of_size (numbers table.now.polynomial) n (entry m) (line_of look) k }
 {
     let end: u16 = 1 << n;
     let first: u16 = (1 << k) - 1;
@@ -245,7 +228,7 @@ pub fn regular_of_size(
         let narrow = chosen_columns(m, n, columns);
         let mut lines = first;
         while lines < end {
-            if determinant(p, products, chosen_lines(narrow, lines), k) == 0 {
+            if determinant(table, chosen_lines(narrow, lines), k) == 0 {
                 break 'choices;
             }
             lines = next_choice(lines);
@@ -257,23 +240,15 @@ pub fn regular_of_size(
 
 // The same for the sizes above `above` up to `most`, the small ones first.
 pub fn regular_between(
-    p: u16,
-    products: &[u8; 65536],
+    table: &Table,
     m: [[u8; 8]; 8],
     n: usize,
-    look: usize,
+    look: Look,
     above: usize,
     most: usize,
 ) -> bool
-    requires { Modulus p × (n ≤ 8) × (most ≤ n) × InField p n n m × Products p products.now × (look ≤ 8) }
-    ensures { result ≡ regular_between (numbers p) n (entry m) look above most }
+    requires { (n ≤ 8) × (most ≤ n) × InField table.now.polynomial n n m × (line_of look ≤ 8) }
+    ensures { result ≡ regular_between (numbers table.now.polynomial) n (entry m) (line_of look) above most }
 {
-    let mut k = above;
-    while k < most {
-        if !regular_of_size(p, products, m, n, look, k + 1) {
-            return false;
-        }
-        k += 1;
-    }
-    true
+    (above..most).all(|k| regular_of_size(table, m, n, look, k + 1))
 }

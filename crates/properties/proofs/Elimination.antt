@@ -1,18 +1,24 @@
 -- The elimination on arrays of arrays: the pivot, the lines left without it, and the entries of the cleared block. Assumes nothing.
-use mathlib.Core.Path.{◌≡◌, refl, sym, ap, ◌∙◌}
-use mathlib.Core.Bool.{Bool, true, false, not}
-use mathlib.Core.List.{List}
+use mathlib.Core.Path.{◌≡◌, refl, sym, ap, subst, ◌∙◌}
+use mathlib.Core.Bool.{Bool, true, false, cond, not}
+use mathlib.Core.List.{List, [], ◌∷◌}
 use mathlib.Core.Logic.{⊎_elim}
-use Prim.Native.Nat.{ℕ, zero, suc, ◌-◌, ◌^◌, ◌<◌}
-use native.Mathlib.Nat.{not-suc-le-zero, eq-or-lt_of_le}
+use Prim.Native.Nat.{ℕ, zero, suc, ◌+◌, ◌-◌, ◌^◌, ◌≤◌, ◌<◌}
+use native.Mathlib.Nat.{not-suc-le-zero, le_of_suc-le-suc, eq-or-lt_of_le}
 use native.Mathlib.Omega.{arith}
-use borrow.Author.Tests.{eqb-true, not-true, not-false}
-use lib.Dec.{eqb}
+use borrow.Author.Tests.{ltb-true, ltb-false, eqb-true, not-true, not-false}
+use lib.Dec.{eqb, ltb}
+use lib.ListN.{length, get_or, take}
+use lib.Seq.{length-take-le}
+use Rattle.std.specs.List.{position, prefix_len}
+use Rattle.std.specs.Option.{MatchOption}
+use Rattle.std.specs.declared.option.Option.{Option}
+use Rattle.std.specs.declared.option.Option.TheVariants.{None, Some}
 use Rattle.algebra.specs.Matrix.{skip, has_kernel}
 use Rattle.algebra.specs.Steps.{cleared_line, cleared}
 use Rattle.algebra.proofs.Bridge.{has_kernel_cong}
 use Rattle.algebra.proofs.Kernel.{has_kernel_empty}
-use Rattle.field.specs.Polynomial.{Modulus, degree, product, first_below}
+use Rattle.field.specs.Polynomial.{Modulus, degree, product, or_next, first_below}
 use Rattle.field.proofs.Sum.{sum_lt}
 use Rattle.field.proofs.Degrees.{polynomial}
 use Rattle.field.proofs.Field.{times_lt}
@@ -38,6 +44,40 @@ cleared_lt p h f k i j =
     sum_lt (degree p) (product p (f k 0) (f (skip k i) (suc j))) (product p (f (skip k i) 0) (f k (suc j)))
     (times_lt p (degree p) d (f k 0) (f (skip k i) (suc j)))
     (times_lt p (degree p) d (f (skip k i) 0) (f k (suc j)))
+
+-- ---- the pivot
+
+-- the lines before the first that passes, among the first r lines
+passed : (test : List ℕ → Bool) (r : ℕ) (m : List (List ℕ)) → r ≤ length m → prefix_len (λ line. not (test line)) (take r m) ≡ first_below r (λ i. test (get_or m i []))
+unfolding first_below
+passed test zero m l = refl
+passed test (suc r) [] l = absurd (not-suc-le-zero l)
+passed test (suc r) (x ∷ m) l = rw (passed test r m (le_of_suc-le-suc l)) (decide (test x))
+  where
+    decide : (t : Bool) → cond (not t) (1 + first_below r (λ i. test (get_or m i []))) 0 ≡ or_next t (first_below r (λ i. test (get_or m i [])))
+    decide true = refl
+    decide false = omega arith
+
+module _ (r : ℕ) (m : List (List ℕ)) (l : r ≤ length m) where
+  abbrev Found : Option ℕ → Type 0
+  Found o = MatchOption o (r ≡ first_below r (λ i. not (eqb (entry m i 0) 0))) (λ k. (k < r) × (k ≡ first_below r (λ i. not (eqb (entry m i 0) 0))))
+
+  -- none of the lines is the pivot's, or line k is
+  pub pivot_found : (o : Option ℕ) → o ≡ position (λ line. not (eqb (get_or line 0 0) 0)) (take r m) → Found o
+  pivot_found o e = subst Found (sym e) (decide (ltb n (length (take r m))) refl)
+    where
+      test : List ℕ → Bool
+      test line = not (eqb (get_or line 0 0) 0)
+
+      n : ℕ
+      n = prefix_len (λ line. not (test line)) (take r m)
+
+      is : n ≡ first_below r (λ i. not (eqb (entry m i 0) 0))
+      is = passed test r m l
+
+      decide : (t : Bool) → ltb n (length (take r m)) ≡ t → Found (cond t (Some n) None)
+      decide true q = (omega (arith, ltb-true n _ q, length-take-le r m l), is)
+      decide false q = omega (arith, ltb-false n _ q, length-take-le r m l, is, first_le r (λ i. not (eqb (entry m i 0) 0)))
 
 -- ---- the recursion
 

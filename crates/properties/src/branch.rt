@@ -1,28 +1,22 @@
 // The branch number, by elimination.
 
-ghost use Rattle.std.specs.Prelude.{◌≡◌, not, ◌+◌, ◌-◌, ◌^◌, ◌≤◌, ◌<◌, eqb, length, get_or};
+ghost use Rattle.std.specs.Prelude.{◌≡◌, not, ◌+◌, ◌-◌, ◌^◌, ◌≤◌, ◌<◌, eqb, length, get_or, take, position};
 ghost use Rattle.algebra.specs.Matrix.{skip, branch_number, chosen, has_kernel};
 ghost use Rattle.algebra.specs.Steps.{cleared_line, cleared};
-ghost use Rattle.field.specs.Polynomial.{Modulus, first_below, Products};
 ghost use Rattle.lines.specs.Steps.Blocks.{filled, framed};
 ghost use Rattle.lines.specs.Numbers.{numbers, elements, entry, InField, WordsInField};
 ghost use Rattle.properties.specs.Steps.Pairs.{lowered, lines_kernel, over_lines};
 
+use field::table::Table;
+use lines::array::filled;
 use matrix::block::{chosen_columns, chosen_lines};
 
-// The first of the r lines whose entry in column 0 is not 0, or r.
-fn pivot(block: [[u8; 8]; 8], r: usize) -> usize
+// The first of the r lines whose entry in column 0 is not 0.
+fn pivot(block: [[u8; 8]; 8], r: usize) -> Option<usize>
     requires { r ≤ 8 }
-    ensures { result ≡ first_below r (λ i. not (eqb (entry block i 0) 0)) }
+    ensures { result ≡ position (λ line. not (eqb (get_or line 0 0) 0)) (take r block) }
 {
-    let mut i = 0;
-    while i < r {
-        if block[i][0] != 0 {
-            return i;
-        }
-        i += 1;
-    }
-    r
+    block[..r].iter().position(|line| line[0] != 0)
 }
 
 // The i-th of the lines that are left without line k.
@@ -34,82 +28,57 @@ fn other_line(k: usize, i: usize) -> usize
 }
 
 // A line cleared by the pivot's, and zeros behind it: its entry in column 0 vanishes and is left out.
-fn cleared_line(p: u16, products: &[u8; 65536], first: [u8; 8], line: [u8; 8], c: usize) -> [u8; 8]
-    requires { Modulus p × (1 ≤ c) × (c ≤ 8) × WordsInField p c first × WordsInField p c line × Products p products.now }
-    ensures { result ≡ filled 0 (cleared_line (numbers p) (λ j. get_or first j 0) (λ j. get_or line j 0)) (c - 1) }
+fn cleared_line(table: &Table, first: [u8; 8], line: [u8; 8], c: usize) -> [u8; 8]
+    requires { (1 ≤ c) × (c ≤ 8) × WordsInField table.now.polynomial c first × WordsInField table.now.polynomial c line }
+    ensures { result ≡ filled 0 (cleared_line (numbers table.now.polynomial) (λ j. get_or first j 0) (λ j. get_or line j 0)) (c - 1) }
 {
     let a = first[0];
     let b = line[0];
-    let mut r = [0; 8];
-    let mut j = 0;
-    while j + 1 < c {
-        r[j] = field::times(p, products, a, line[j + 1])
-            ^ field::times(p, products, b, first[j + 1]);
-        j += 1;
-    }
-    r
+    filled(
+        0,
+        c - 1,
+        |j| table.times(a, line[j + 1]) ^ table.times(b, first[j + 1]),
+    )
 }
 
 // The block that is left when column 0 is cleared by line k: without that line and that column, and zeros elsewhere.
-fn cleared(
-    p: u16,
-    products: &[u8; 65536],
-    block: [[u8; 8]; 8],
-    r: usize,
-    c: usize,
-    k: usize,
-) -> [[u8; 8]; 8]
-    requires { Modulus p × (k < r) × (r ≤ 8) × (1 ≤ c) × (c ≤ 8) × InField p r c block × Products p products.now }
-    ensures { result ≡ framed (r - 1) (c - 1) (cleared (numbers p) (entry block) k) }
+fn cleared(table: &Table, block: [[u8; 8]; 8], r: usize, c: usize, k: usize) -> [[u8; 8]; 8]
+    requires { (k < r) × (r ≤ 8) × (1 ≤ c) × (c ≤ 8) × InField table.now.polynomial r c block }
+    ensures { result ≡ framed (r - 1) (c - 1) (cleared (numbers table.now.polynomial) (entry block) k) }
 {
-    let first = block[k];
-    let mut b = [[0; 8]; 8];
-    let mut i = 0;
-    while i + 1 < r {
-        let line = block[other_line(k, i)];
-        let next = cleared_line(p, products, first, line, c);
-        b[i] = next;
-        i += 1;
+    let mut left = [[0; 8]; 8];
+    for i in 0..r - 1 {
+        left[i] = cleared_line(table, block[k], block[other_line(k, i)], c);
     }
-    b
+    left
 }
 
 // Whether some input of c words that is not zero goes to zero in all r lines, by elimination.
-pub fn has_kernel(p: u16, products: &[u8; 65536], block: [[u8; 8]; 8], c: usize, r: usize) -> bool
-    requires { Modulus p × (r ≤ 8) × (c ≤ 8) × InField p r c block × Products p products.now }
-    ensures { result ≡ has_kernel (numbers p) (elements p) c r (entry block) }
+pub fn has_kernel(table: &Table, block: [[u8; 8]; 8], c: usize, r: usize) -> bool
+    requires { (r ≤ 8) × (c ≤ 8) × InField table.now.polynomial r c block }
+    ensures { result ≡ has_kernel (numbers table.now.polynomial) (elements table.now.polynomial) c r (entry block) }
 {
     if c == 0 {
         return false;
     }
-    let k = pivot(block, r);
-    if k == r {
-        return true;
+    match pivot(block, r) {
+        None => true,
+        Some(k) => has_kernel(table, cleared(table, block, r, c, k), c - 1, r - 1),
     }
-    let next = cleared(p, products, block, r, c, k);
-    has_kernel(p, products, next, c - 1, r - 1)
 }
 
 // The best so far, or the c columns and the lines left out, where that is less and the chosen lines send an input that is not zero to zero.
-fn tried(
-    p: u16,
-    products: &[u8; 65536],
-    narrow: [[u8; 8]; 8],
-    n: usize,
-    c: usize,
-    lines: u16,
-    best: usize,
-) -> usize
-    requires { Modulus p × (n ≤ 8) × (c ≤ 8) × InField p n c narrow × (lines < 2 ^ n) × Products p products.now }
-    ensures { result ≡ lowered (lines_kernel (numbers p) (elements p) n c (entry narrow) lines) (c + (n - length (chosen n lines))) best }
+fn tried(table: &Table, narrow: [[u8; 8]; 8], n: usize, c: usize, lines: u16, best: usize) -> usize
+    requires { (n ≤ 8) × (c ≤ 8) × InField table.now.polynomial n c narrow × (lines < 2 ^ n) }
+    ensures { result ≡ lowered (lines_kernel (numbers table.now.polynomial) (elements table.now.polynomial) n c (entry narrow) lines) (c + (n - length (chosen n lines))) best }
 {
-    let r = u16::count_ones(lines) as usize;
+    let r = lines.count_ones() as usize;
     let size = c + (n - r);
     if best <= size {
         return best;
     }
     let block = chosen_lines(narrow, lines);
-    if has_kernel(p, products, block, c, r) {
+    if has_kernel(table, block, c, r) {
         size
     } else {
         best
@@ -117,41 +86,30 @@ fn tried(
 }
 
 // The same for all choices of lines.
-fn over_lines(
-    p: u16,
-    products: &[u8; 65536],
-    narrow: [[u8; 8]; 8],
-    n: usize,
-    c: usize,
-    best: usize,
-) -> usize
-    requires { Modulus p × (n ≤ 8) × (c ≤ 8) × InField p n c narrow × Products p products.now }
-    ensures { result ≡ over_lines (numbers p) (elements p) n c (entry narrow) (2 ^ n) best }
+fn over_lines(table: &Table, narrow: [[u8; 8]; 8], n: usize, c: usize, best: usize) -> usize
+    requires { (n ≤ 8) × (c ≤ 8) × InField table.now.polynomial n c narrow }
+    ensures { result ≡ over_lines (numbers table.now.polynomial) (elements table.now.polynomial) n c (entry narrow) (2 ^ n) best }
 {
     let end: u16 = 1 << n;
     let mut least = best;
-    let mut lines: u16 = 0;
-    while lines < end {
-        least = tried(p, products, narrow, n, c, lines, least);
-        lines += 1;
+    for lines in 0..end {
+        least = tried(table, narrow, n, c, lines, least);
     }
     least
 }
 
 // The branch number: the least, over choices of columns and lines, of the columns and the lines left out, where the chosen lines send
 // an input over the chosen columns that is not zero to zero.
-pub fn branch_number(p: u16, products: &[u8; 65536], m: [[u8; 8]; 8], n: usize) -> usize
-    requires { Modulus p × (1 ≤ n) × (n ≤ 8) × InField p n n m × Products p products.now }
-    ensures { result ≡ branch_number (numbers p) (elements p) n (entry m) }
+pub fn branch_number(table: &Table, m: [[u8; 8]; 8], n: usize) -> usize
+    requires { (1 ≤ n) × (n ≤ 8) × InField table.now.polynomial n n m }
+    ensures { result ≡ branch_number (numbers table.now.polynomial) (elements table.now.polynomial) n (entry m) }
 {
     let end: u16 = 1 << n;
     let mut best = n + 1;
-    let mut columns: u16 = 1;
-    while columns < end {
-        let c = u16::count_ones(columns) as usize;
+    for columns in 1..end {
+        let c = columns.count_ones() as usize;
         let narrow = chosen_columns(m, n, columns);
-        best = over_lines(p, products, narrow, n, c, best);
-        columns += 1;
+        best = over_lines(table, narrow, n, c, best);
     }
     best
 }

@@ -8,11 +8,9 @@ use native.Mathlib.Nat.{le_of_eq}
 use borrow.Author.Tests.{ltb-true, eqb-false, leb-true}
 use native.Mathlib.Omega.{arith}
 use lib.Dec.{eqb, leb, ltb, lit≤}
-use Rattle.refusal.specs.declared.Outcome.{Outcome}
-use Rattle.refusal.specs.declared.Outcome.TheVariants.{Value, Refused}
 use Rattle.refusal.specs.declared.Refusal.{Refusal}
 use Rattle.refusal.specs.declared.Refusal.TheVariants.{Form, Kind, PolynomialRange, Reducible, OrderRange, CountRange, ValueRange, BadCandidate, NoRow, ShortSpace}
-use Rattle.refusal.specs.Refusals.{number_of, Fault, fault, first_number, Applies, LowestOf, lowest, none, Answer, answer, unless_refused, answer_after, answer_of}
+use Rattle.refusal.specs.Refusals.{number_of, Fault, fault, first_number, Applies, LowestOf, lowest, none, Answer, answer, unless_refused, answer_after}
 
 -- no number of a refusal is 0
 pub number_not_zero : (r : Refusal) → number_of r ≡ 0 → ⊥
@@ -280,25 +278,12 @@ module _ {A : Type 0} (empty value : A) where
   pub after_later : (l r : List Fault) → numbered l ≡ true → first_number l ≡ 0 → answer_after empty r value ≡ answer_after empty (l ++ r) value
   after_later l r h e = sym (after_same _ _ (first_later l r h e))
 
--- ---- an outcome that is matched
+-- ---- a result that is matched
 
--- what the outcome of a call with these faults tells
-module _ (o : Outcome) (l : List Fault) (v : ℕ) (e : answer_of o ≡ answer_after 0 l v) where
-  number_is : (answer_of o).number ≡ first_number l
-  number_is = ap (λ (a : Answer ℕ). a.number) e ∙ after_number_is 0 v l
-
-  -- accepted: no fault is there
-  pub outcome_passed : (w : ℕ) → o ≡ Value w → first_number l ≡ 0
-  outcome_passed w d = sym (ap (λ (x : Outcome). (answer_of x).number) (sym d) ∙ number_is)
-
-  pub outcome_number : (r : Refusal) → o ≡ Refused r → first_number l ≡ number_of r
-  outcome_number r d = sym (ap (λ (x : Outcome). (answer_of x).number) (sym d) ∙ number_is)
-
-  -- refused: so is every call that looks at these faults first
-  pub outcome_refused : {A : Type 0} (empty value : A) (more : List Fault) (r : Refusal) → o ≡ Refused r
-      → answer (number_of r) empty ≡ answer_after empty (l ++ more) value
-  outcome_refused empty value more r d = after_number empty value (l ++ more) (number_of r) (told (number_of r) (number_not_zero r) (outcome_number r d)) (number_not_zero r)
-    where
-      told : (n : ℕ) → (n ≡ 0 → ⊥) → first_number l ≡ n → first_number (l ++ more) ≡ n
-      told zero h f = absurd (h refl)
-      told (suc n) h f = first_before l more n f
+-- a reason whose number is that of the first fault of a list: so is every call refused that looks at these faults first
+pub refused_before : {A : Type 0} (empty value : A) (l more : List Fault) (r : Refusal) → number_of r ≡ first_number l → answer (number_of r) empty ≡ answer_after empty (l ++ more) value
+refused_before empty value l more r e = after_number empty value (l ++ more) (number_of r) (told (number_of r) (number_not_zero r) (sym e)) (number_not_zero r)
+  where
+    told : (n : ℕ) → (n ≡ 0 → ⊥) → first_number l ≡ n → first_number (l ++ more) ≡ n
+    told zero h f = absurd (h refl)
+    told (suc n) h f = first_before l more n f

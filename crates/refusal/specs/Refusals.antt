@@ -1,9 +1,7 @@
--- Refusals in the words of document 01: the number of each, the first of a list that applies, and what a call yields.
+-- Refusals in the words of document 01: the number of each, the first of a list that applies, and what a call's result says.
 -- Assumes nothing.
-use Rattle.std.specs.Prelude.{◌≡◌, Bool, true, cond, ℕ, zero, suc, ◌≤◌}
+use Rattle.std.specs.Prelude.{◌≡◌, Bool, true, cond, ℕ, zero, suc, ◌≤◌, Result, Ok, Err}
 use mathlib.Core.List.{List, [], ◌∷◌, Memᴰ}
-use Rattle.refusal.specs.declared.Outcome.{Outcome}
-use Rattle.refusal.specs.declared.Outcome.TheVariants.{Value, Refused}
 use Rattle.refusal.specs.declared.Refusal.{Refusal}
 use Rattle.refusal.specs.declared.Refusal.TheVariants.{Form, Kind, PolynomialRange, Reducible, OrderRange, CountRange, ValueRange, BadCandidate, NoRow, ShortSpace}
 
@@ -59,7 +57,11 @@ unless_refused empty (suc number) value = answer (suc number) empty
 unfoldable pub answer_after : {A : Type 0} → A → List Fault → A → Answer A
 answer_after empty faults value = unless_refused empty (first_number faults) value
 
--- what an outcome says
-abbrev pub answer_of : Outcome → Answer ℕ
-answer_of (Value v) = answer 0 v
-answer_of (Refused r) = answer (number_of r) 0
+-- what a call's result says: what it yields in the paper's values, or the number of the reason beside an empty value
+abbrev pub answer_by : {T A : Type 0} → (T → A) → A → Result T Refusal → Answer A
+answer_by values empty (Ok yield) = answer 0 (values yield)
+answer_by values empty (Err reason) = answer (number_of reason) empty
+
+-- of a call that yields a number
+abbrev pub answer_of : Result ℕ Refusal → Answer ℕ
+answer_of = answer_by (λ v. v) 0

@@ -1,11 +1,11 @@
-// Why a request or a call is refused, and what a call yields.
+// Why a request or a call is refused. What a call yields is a `Result` with such a reason.
 #![tactic(auto)]
 
 ghost use Rattle.std.specs.Prelude.{◌≡◌};
 ghost use Rattle.refusal.specs.Refusals.{number_of};
 
 // The reasons of document 01. The definition `number_of` gives the number of each.
-#[derive(Clone, Copy)]
+#[derive(Clone, Copy, Debug, PartialEq, Eq)]
 pub enum Refusal {
     Form,
     Kind,
@@ -19,27 +19,22 @@ pub enum Refusal {
     ShortSpace,
 }
 
-// What a call yields.
-#[derive(Clone, Copy)]
-pub enum Outcome {
-    Value(u32),
-    Refused(Refusal),
-}
-
 // The number of a refusal.
-pub fn number_of(reason: Refusal) -> u32
-    ensures { result ≡ number_of reason }
-{
-    match reason {
-        Refusal::Form => 1,
-        Refusal::Kind => 2,
-        Refusal::PolynomialRange => 3,
-        Refusal::Reducible => 4,
-        Refusal::OrderRange => 5,
-        Refusal::CountRange => 6,
-        Refusal::ValueRange => 7,
-        Refusal::BadCandidate => 8,
-        Refusal::NoRow => 9,
-        Refusal::ShortSpace => 10,
+impl From<Refusal> for u32 {
+    ghost from_gives = { λ reason number. number ≡ number_of reason };
+
+    fn from(reason: Refusal) -> u32 {
+        match reason {
+            Refusal::Form => 1,
+            Refusal::Kind => 2,
+            Refusal::PolynomialRange => 3,
+            Refusal::Reducible => 4,
+            Refusal::OrderRange => 5,
+            Refusal::CountRange => 6,
+            Refusal::ValueRange => 7,
+            Refusal::BadCandidate => 8,
+            Refusal::NoRow => 9,
+            Refusal::ShortSpace => 10,
+        }
     }
 }

@@ -10,7 +10,8 @@ use Rattle.refusal.specs.declared.Refusal.TheVariants.{Form, Kind as UnknownKind
 use Rattle.refusal.proofs.Faults.{after_taken, after_left}
 use Rattle.rows.specs.declared.Family.{Family}
 use Rattle.rows.specs.declared.Family.TheVariants.{Hadamard, Circulant}
-use Rattle.text.specs.declared.Header.TheVariants.{Read}
+use Rattle.std.specs.Prelude.{Ok}
+use Rattle.text.specs.declared.Header.{Header}
 use Rattle.text.specs.Reading.{in_form, kind_of, polynomial_of, order_of, count_of, budget_of, line_one_length, values_from, values_of, says_header, header_answer}
 use Rattle.text.proofs.Form.{part_is}
 use Rattle.text.proofs.Requests.{header_read}
@@ -78,14 +79,16 @@ module _ (text : List ℕ) where
   text_read e = after_left [] _ 1 _ _ (ap not e)
 
   -- the numbers of line one and the part behind it, as the code reads them
-  pub text_numbers : (kind polynomial order count budget : ℕ) → says_header (Read kind polynomial order count budget) ≡ header_answer text
-      → due_to (kind_among kinds kind) (request_with polynomial order budget (values_from (take (length text - line_one_length kind) (drop (line_one_length kind) text)) 0 count))
+  pub text_numbers : (h : Header) → says_header (Ok h) ≡ header_answer text
+      → due_to (kind_among kinds h.kind)
+      (request_with h.polynomial h.order h.budget (values_from (take (length text - line_one_length h.kind) (drop (line_one_length h.kind) text)) 0 h.count))
       ≡ due text
-  text_numbers kind polynomial order count budget e =
-      let r = header_read text kind polynomial order count budget e in
+  text_numbers h e =
+      let r = header_read text h e in
       same r.1 r.2 r.3 r.4 r.5 ∙ text_read r.0
     where
-      same : kind_of text ≡ kind → polynomial_of text ≡ polynomial → order_of text ≡ order → count_of text ≡ count → budget_of text ≡ budget
-          → due_to (kind_among kinds kind) (request_with polynomial order budget (values_from (take (length text - line_one_length kind) (drop (line_one_length kind) text)) 0 count))
+      same : kind_of text ≡ h.kind → polynomial_of text ≡ h.polynomial → order_of text ≡ h.order → count_of text ≡ h.count → budget_of text ≡ h.budget
+          → due_to (kind_among kinds h.kind)
+          (request_with h.polynomial h.order h.budget (values_from (take (length text - line_one_length h.kind) (drop (line_one_length h.kind) text)) 0 h.count))
           ≡ due_to (kind_in text) (request_in text)
-      same k p o n b = unfold kind_in request_in values_of in rw (k, p, o, n, b, part_is (line_one_length kind) text)
+      same k p o n b = unfold kind_in request_in values_of in rw (k, p, o, n, b, part_is (line_one_length h.kind) text)

@@ -1,6 +1,7 @@
 -- What a call of `answer` returns, and every byte of the lent space after it; and what the program shows. Assumes nothing.
-use Rattle.std.specs.Prelude.{◌≡◌, Bool, cond, List, [], ◌∷◌, ◌++◌, ℕ, zero, suc, leb, length, drop}
-use Rattle.refusal.specs.Refusals.{Answer}
+use Rattle.std.specs.Prelude.{◌≡◌, Bool, cond, List, [], ◌∷◌, ◌++◌, ℕ, zero, suc, leb, length, drop, Result}
+use Rattle.refusal.specs.declared.Refusal.{Refusal}
+use Rattle.refusal.specs.Refusals.{Answer, answer_of}
 use Rattle.text.specs.Text.{line_text, answer_text}
 use Rattle.reply.specs.Due.{due}
 
@@ -29,9 +30,17 @@ pub record Replied (d : Answer (List (List ℕ))) (space after : List ℕ) (numb
   pub size_is : size ≡ length_returned number (length (answer_text d.value))
   pub bytes : after ≡ written_at (text_of d.number d.value) space
 
+-- the same of a call that returns the length of the answer, or the reason of the refusal: it says 0 and the length, or the reason's number and 0
+abbrev pub RepliedBy : Answer (List (List ℕ)) → List ℕ → List ℕ → Result ℕ Refusal → Type 0
+RepliedBy d space after result = Replied d space after (answer_of result).number (answer_of result).value
+
 -- what a call yields: the reply to what is due to the text
 pub record Answered (text space after : List ℕ) (number size : ℕ) : Type 0 where
   pub reply : Replied (due text) space after number size
+
+-- the same, by the call's result
+abbrev pub AnsweredBy : List ℕ → List ℕ → List ℕ → Result ℕ Refusal → Type 0
+AnsweredBy text space after result = Answered text space after (answer_of result).number (answer_of result).value
 
 -- what the program shows: the first `count` bytes of the space, which are the answer text or the refusal's line; the bytes behind them are
 -- as before

@@ -1,68 +1,37 @@
-// What a call on a request text replies: the number and the length that are returned, and the texts that are written.
+// What a call on a request text replies: the length of the answer or the reason of the refusal, and the texts that are written.
 #![tactic(auto)]
 
-ghost use Rattle.std.specs.Prelude.{◌≡◌, [], ◌∷◌, ◌≤◌, length};
+ghost use Rattle.std.specs.Prelude.{[], map, ◌+◌, ◌*◌, ◌^◌, ◌<◌, length, sum_by, All};
 ghost use Rattle.refusal.specs.Refusals.{number_of, answer};
 ghost use Rattle.text.specs.Text.{SixDigits};
-ghost use Rattle.reply.specs.Answered.{Replied};
+ghost use Rattle.reply.specs.Answered.{RepliedBy};
 
 use refusal::Refusal;
-
-// The number that is returned, 0 where the request is accepted, and the length of the answer, 0 where it is refused.
-#[derive(Clone, Copy)]
-pub struct Reply {
-    pub number: u32,
-    pub length: usize,
-}
+use text::Writer;
 
 // Refuses: the line of the number is written where seven bytes are lent.
-pub fn refuse(space: &mut [u8], reason: Refusal) -> Reply
-    ensures { Replied (answer (number_of reason) []) space.old space.new result.number result.length }
+pub fn refuse(space: &mut [u8], reason: Refusal) -> Result<usize, Refusal>
+    ensures { RepliedBy (answer (number_of reason) []) space.old space.new result }
 {
-    let number = refusal::number_of(reason);
     if 7 <= space.len() {
-        text::put_line(space, 0, &[number]);
+        let mut writer = Writer { space, at: 0 };
+        writer.put_line(&[u32::from(reason)]);
     }
-    Reply { number, length: 0 }
+    Err(reason)
 }
 
-// What is returned where the answer does not fit the lent space.
-pub fn too_short() -> Reply
-    ensures { result ≡ record { number = 10; length = 0 } }
+// Writes an answer of these lines, if they fit.
+pub fn put_answer(space: &mut [u8], lines: &[&[u32]]) -> Result<usize, Refusal>
+    requires { (sum_by (λ line. 6 * length line.now + 1) lines.now < 2 ^ 64) × All (λ line. SixDigits line.now) lines.now }
+    ensures { RepliedBy (answer 0 (map (λ line. line.now) lines.now)) space.old space.new result }
 {
-    Reply {
-        number: refusal::number_of(Refusal::ShortSpace),
-        length: 0,
+    let size: usize = lines.iter().map(|line| 6 * line.len() + 1).sum();
+    if space.len() < size {
+        return Err(Refusal::ShortSpace);
     }
-}
-
-// Writes an answer of one line, if it fits.
-pub fn put_answer(space: &mut [u8], numbers: &[u32]) -> Reply
-    requires { (length numbers.now ≤ 8) × SixDigits numbers.now }
-    ensures { Replied (answer 0 (numbers.now ∷ [])) space.old space.new result.number result.length }
-{
-    if space.len() < 6 * numbers.len() + 1 {
-        return too_short();
+    let mut writer = Writer { space, at: 0 };
+    for line in lines {
+        writer.put_line(line);
     }
-    let end = text::put_line(space, 0, numbers);
-    Reply {
-        number: 0,
-        length: end,
-    }
-}
-
-// Writes an answer of two lines, if they fit.
-pub fn put_answers(space: &mut [u8], numbers: &[u32], row: &[u32]) -> Reply
-    requires { (length numbers.now ≤ 8) × (length row.now ≤ 8) × SixDigits numbers.now × SixDigits row.now }
-    ensures { Replied (answer 0 (numbers.now ∷ row.now ∷ [])) space.old space.new result.number result.length }
-{
-    if space.len() < 6 * numbers.len() + 6 * row.len() + 2 {
-        return too_short();
-    }
-    let next = text::put_line(space, 0, numbers);
-    let end = text::put_line(space, next, row);
-    Reply {
-        number: 0,
-        length: end,
-    }
+    Ok(writer.at)
 }

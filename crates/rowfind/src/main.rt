@@ -14,8 +14,10 @@ fn respond(buffer: &[u8], read: usize, space: &mut [u8]) -> usize
     ensures { (input : List ℕ) → take 4097 input ≡ take read buffer.now
         → Shown input space.old space.new result }
 {
-    let reply = answer::answer(&buffer[..read], space);
-    if reply.number == 0 { reply.length } else { 7 }
+    match answer::answer(&buffer[..read], space) {
+        Ok(length) => length,
+        Err(_) => 7,
+    }
 }
 
 // A text has at most 4,096 bytes: one more tells that it is too long. No answer has more than 52,877. A read that fails counts as the end of

@@ -1,34 +1,36 @@
--- The tests of what a search is given, value by value, and the row kept as an answer.
+-- The tests of what a search is given, the first of them that tells, and the row kept as an answer.
 -- Assumes nothing.
-use mathlib.Core.Path.{◌≡◌, refl, sym, ap, ap₂, ◌∙◌}
+use mathlib.Core.Path.{◌≡◌, refl, sym, ap, ap₂, subst, ◌∙◌}
 use mathlib.Core.Logic.{◌⊎◌, inl, inr}
-use mathlib.Core.Bool.{Bool, true, false, not, ◌||◌, or-false, true≢false}
+use mathlib.Core.Bool.{Bool, true, false, cond, not, ◌||◌, or-false, true≢false}
 use mathlib.Core.List.{List, [], ◌∷◌, ◌++◌}
-use Prim.Native.Nat.{ℕ, suc, ◌+◌, ◌-◌, ◌≤◌, ◌<◌, ◌^◌}
+use Prim.Native.Nat.{ℕ, suc, ◌+◌, ◌-◌, ◌≤◌, ◌<◌}
 use native.Mathlib.Numerals.{add-one}
 use native.Mathlib.Omega.{arith}
 use lib.Dec.{eqb, ltb}
 use lib.ListN.{length, get_or, take, drop, length-drop, drop_of_length-le}
 use lib.Seq.{drop-cons, take_all}
-use borrow.Author.Tests.{eqb-true, ne_eqb, le-leb, lt-leb, lt-ltb, le-ltb, ltb-false}
-use Rattle.refusal.specs.Refusals.{Fault, fault, first_number, Answer, answer, answer_after}
+use Rattle.std.specs.Prelude.{None, Some}
+use Rattle.std.specs.List.{list_any}
+use Rattle.std.proofs.lemmas.Option.{none-some, same_Some}
+use Rattle.std.proofs.lemmas.Grind.{common_steps}
+use borrow.Author.Tests.{eqb-true, ne_eqb, ltb-false}
+use Rattle.refusal.specs.declared.Refusal.{Refusal}
+use Rattle.refusal.specs.Refusals.{number_of, Fault, fault, first_number, Answer, answer, answer_after}
 use Rattle.refusal.specs.declared.Refusal.TheVariants.{NoRow}
-use Rattle.refusal.proofs.Faults.{numbered, first_passed, first_parts, after_taken, after_left, after_later, after_empty}
+use Rattle.refusal.proofs.Faults.{numbered, first_later, first_passed, first_parts, after_taken, after_left, after_later, after_empty, after_number_is, refused_before}
 use Rattle.refusal.proofs.Tests.{or_none}
-use Rattle.field.specs.Polynomial.{Modulus, degree}
+use Rattle.field.specs.Polynomial.{Modulus}
 use Rattle.field.specs.Faults.{is_too_large, polynomial_faults}
-use Rattle.field.proofs.Calls.{modulus_parts}
-use Rattle.lines.specs.Counts.{element_count}
+use Rattle.field.proofs.Calls.{modulus_number, modulus_parts}
 use Rattle.rows.specs.declared.Family.{Family}
 use Rattle.rows.specs.declared.Family.TheVariants.{Hadamard, Circulant}
-use Rattle.rows.specs.Lightest.{Best, member}
-use Rattle.rows.specs.Keys.{sum_of}
+use Rattle.rows.specs.Lightest.{Best, nothing, found, member}
 use Rattle.cuts.specs.Steps.Families.{OrderOf}
 use Rattle.lightest.specs.declared.Best.{Best as Kept}
 use Rattle.rows.specs.Candidates.{some_too_large, some_repeated, some_bad}
 use Rattle.search.specs.Answer.{is_wrong_search_order, is_wrong_search_count, is_wrong_circulant_order, is_wrong_circulant_count, is_wrong_order_for, is_wrong_count_for, brief_faults, is_none, RowFound, no_row, row_found}
-use Rattle.lightest.specs.Steps.Prefix.{kept, best_as}
-use Rattle.lightest.proofs.Prefixes.{count_take, best_found, best_none}
+use Rattle.lightest.specs.Steps.Prefix.{kept}
 
 -- ---- a test of every value
 
@@ -49,10 +51,6 @@ module _ (all : List ℕ → Bool) (none : all [] ≡ false) (values : List ℕ)
 
 -- the test of the values from i on is that of value i, or that of the values behind it
 module _ (values : List ℕ) (i : ℕ) (l : i < length values) where
-  pub member_here : (x : ℕ) → member x (drop i values) ≡ (eqb x (get_or values i 0) || member x (drop (suc i) values))
-  unfolding member
-  member_here x = rw (drop-cons values i 0 l)
-
   pub large_here : (p : ℕ) → some_too_large p (drop i values) ≡ (is_too_large p (get_or values i 0) || some_too_large p (drop (suc i) values))
   unfolding some_too_large
   large_here p = rw (drop-cons values i 0 l)
@@ -61,17 +59,23 @@ module _ (values : List ℕ) (i : ℕ) (l : i < length values) where
   unfolding some_repeated
   repeated_here = rw (drop-cons values i 0 l)
 
+-- whether a slice contains a value
+same_either_way : (a b : ℕ) → eqb a b ≡ eqb b a
+same_either_way a b = grind (arith, common_steps)
+
+pub contains_member : (x : ℕ) (values : List ℕ) → list_any (λ y. eqb y x) values ≡ member x values
+unfolding member
+contains_member x [] = refl
+contains_member x (y ∷ ys) = ap₂ ◌||◌ (same_either_way y x) (contains_member x ys)
+
 -- the values behind value i, as a part of the slice
-pub rest_member : (values : List ℕ) (i : ℕ) (r : Bool) → r ≡ member (get_or values i 0) (take (length values - (i + 1)) (drop (i + 1) values))
+pub contains_rest : (values : List ℕ) (i : ℕ) {r : Bool} → r ≡ list_any (λ y. eqb y (get_or values i 0)) (take (length values - (i + 1)) (drop (i + 1) values))
     → r ≡ member (get_or values i 0) (drop (suc i) values)
-rest_member values i r e =
+contains_rest values i e =
     e
+    ∙ contains_member (get_or values i 0) _
     ∙ ap (member (get_or values i 0)) (take_all (length values - (i + 1)) (drop (i + 1) values) (omega (arith, length-drop (i + 1) values)))
     ∙ ap (λ (m : ℕ). member (get_or values i 0) (drop m values)) (add-one i)
-
-pub member_none : (x : ℕ) → member x [] ≡ false
-unfolding member
-member_none x = refl
 
 pub large_none : (p : ℕ) → some_too_large p [] ≡ false
 unfolding some_too_large
@@ -81,25 +85,7 @@ pub repeated_none : some_repeated [] ≡ false
 unfolding some_repeated
 repeated_none = refl
 
--- a value against the number of elements
-module _ (p end a : ℕ) (size : end ≡ 2 ^ degree p) where
-  pub large_true : end ≤ a → is_too_large p a ≡ true
-  unfolding is_too_large
-  large_true l = le-leb (2 ^ degree p) a (omega arith)
-
-  pub large_false : a < end → is_too_large p a ≡ false
-  unfolding is_too_large
-  large_false l = lt-leb (2 ^ degree p) a (omega arith)
-
 -- ---- order and count
-
-pub order_four : (n : ℕ) → n ≡ 4 → false ≡ is_wrong_search_order n
-unfolding is_wrong_search_order
-order_four n e = rw e refl
-
-pub order_other : (n : ℕ) → (n ≡ 4 → ⊥) → not (eqb n 8) ≡ is_wrong_search_order n
-unfolding is_wrong_search_order
-order_other n e = rw (ne_eqb n 4 e)
 
 -- an order that is not wrong
 pub order_of_holds : (n : ℕ) → is_wrong_search_order n ≡ false → (n ≡ 4) ⊎ (n ≡ 8)
@@ -111,14 +97,6 @@ order_of_holds n e = go (eqb n 4) (eqb n 8) refl refl e
     go false true p q f = inr (eqb-true n 8 q)
     go false false p q f = absurd (true≢false f)
 
-pub circulant_order_small : (n : ℕ) → n < 2 → true ≡ is_wrong_circulant_order n
-unfolding is_wrong_circulant_order
-circulant_order_small n l = rw (lt-ltb n 2 l)
-
-pub circulant_order_other : (n : ℕ) → 2 ≤ n → ltb 8 n ≡ is_wrong_circulant_order n
-unfolding is_wrong_circulant_order
-circulant_order_other n l = rw (le-ltb n 2 l)
-
 pub circulant_order_of : (n : ℕ) → is_wrong_circulant_order n ≡ false → (2 ≤ n) × (n ≤ 8)
 unfolding is_wrong_circulant_order
 circulant_order_of n e = let (low, high) = or_none (ltb n 2) (ltb 8 n) e in (ltb-false n 2 low, ltb-false 8 n high)
@@ -128,17 +106,9 @@ pub family_order : (family : Family) (n : ℕ) → is_wrong_order_for family n �
 family_order Hadamard n e = order_of_holds n e
 family_order Circulant n e = circulant_order_of n e
 
-pub circulant_count_zero : (count : ℕ) → count ≡ 0 → true ≡ is_wrong_circulant_count count
-unfolding is_wrong_circulant_count
-circulant_count_zero count e = rw e refl
-
 pub circulant_count_other : (count : ℕ) → (count ≡ 0 → ⊥) → ltb 8 count ≡ is_wrong_circulant_count count
 unfolding is_wrong_circulant_count
 circulant_count_other count e = rw (ne_eqb count 0 e)
-
-pub count_zero : (n count : ℕ) → count ≡ 0 → true ≡ is_wrong_search_count n count
-unfolding is_wrong_search_count
-count_zero n count e = rw e refl
 
 pub count_four : (n count : ℕ) → (count ≡ 0 → ⊥) → n ≡ 4 → ltb 255 count ≡ is_wrong_search_count n count
 unfolding is_wrong_search_count
@@ -147,10 +117,6 @@ count_four n count e f = rw (ne_eqb count 0 e, f, or-false)
 pub count_eight : (n count : ℕ) → (count ≡ 0 → ⊥) → n ≡ 8 → ltb 16 count ≡ is_wrong_search_count n count
 unfolding is_wrong_search_count
 count_eight n count e f = rw (ne_eqb count 0 e, f)
-
-pub count_other : (n count : ℕ) → (count ≡ 0 → ⊥) → (n ≡ 4 → ⊥) → (n ≡ 8 → ⊥) → false ≡ is_wrong_search_count n count
-unfolding is_wrong_search_count
-count_other n count e f g = rw (ne_eqb count 0 e, ne_eqb n 4 f, ne_eqb n 8 g)
 
 -- ---- candidates
 
@@ -164,29 +130,41 @@ bad_repeated values r e f = rw e f
 
 -- ---- the row kept as an answer
 
-abbrev says : ℕ → ℕ → List ℕ → Answer RowFound
-says number sum row = answer number (record { sum = sum; row = row })
-
-module _ (p n : ℕ) (b : Kept) (holds : b ≡ kept p n (best_as n b)) where
-  abbrev nine : Best → Answer RowFound
+module _ (p n : ℕ) where
+  -- what is answered where nothing is refused before 9
+  abbrev pub nine : Best → Answer RowFound
   nine best = answer_after no_row (fault 9 (is_none best) ∷ []) (row_found p n best)
 
   -- a row was found
-  pub says_found : (sum : ℕ) → sum ≡ element_count p n (λ j. get_or b.row j 0) → b.found ≡ true → says 0 sum b.row ≡ nine (best_as n b)
-  unfolding kept sum_of
-  says_found sum e f =
-      ap₂ (says 0) (e ∙ sym (count_take p n b.row)) (ap (λ (x : Kept). x.row) (holds ∙ ap (kept p n) (best_found b n f)))
+  pub says_found : (best : Best) (b : Kept) → Some b ≡ kept p n best → answer 0 (record { sum = b.count; row = b.row }) ≡ nine best
+  unfolding kept
+  says_found nothing b e = absurd (none-some b (sym e))
+  says_found (found row) b e =
+      ap (λ (k : Kept). answer 0 (record { sum = k.count; row = k.row })) (same_Some b _ e)
       ∙ after_empty no_row _
       ∙ after_left no_row _ 9 false [] refl
-      ∙ ap nine (sym (best_found b n f))
 
   -- none was
-  pub says_none : b.found ≡ false → says 9 0 b.row ≡ nine (best_as n b)
+  pub says_none : (best : Best) → None ≡ kept p n best → answer 9 no_row ≡ nine best
   unfolding kept
-  says_none f =
-      ap (says 9 0) (ap (λ (x : Kept). x.row) (holds ∙ ap (kept p n) (best_none b n f)))
-      ∙ after_taken no_row no_row NoRow true [] refl
-      ∙ ap nine (sym (best_none b n f))
+  says_none nothing e = after_taken no_row no_row NoRow true [] refl
+  says_none (found row) e = absurd (none-some _ e)
+
+-- ---- a brief
+
+-- a reason that the polynomial is refused for is the brief's
+pub brief_before : (family : Family) (p n : ℕ) (values : List ℕ) (r : Refusal) → number_of r ≡ first_number (polynomial_faults p) → number_of r ≡ first_number (brief_faults family p n values)
+brief_before family p n values r e =
+    ap (λ (a : Answer ℕ). a.number) (refused_before 0 0 (polynomial_faults p) _ r e) ∙ after_number_is 0 0 (brief_faults family p n values)
+
+-- where the polynomial passes, the first of the tests that fails tells
+pub brief_first : (family : Family) (p n : ℕ) (values : List ℕ) {q : ℕ} → Modulus q → q ≡ p → {o c l b : Bool}
+    → is_wrong_order_for family n ≡ o → is_wrong_count_for family n (length values) ≡ c → some_too_large q values ≡ l → some_bad values ≡ b
+    → cond o 5 (cond c 6 (cond l 7 (cond b 8 0))) ≡ first_number (brief_faults family p n values)
+unfolding first_number polynomial_faults numbered
+brief_first family p n values h e order count large bad =
+    rw (sym order, sym count, sym large, sym bad, e)
+    (sym (first_later (polynomial_faults p) (fault 5 (is_wrong_order_for family n) ∷ fault 6 (is_wrong_count_for family n (length values)) ∷ fault 7 (some_too_large p values) ∷ fault 8 (some_bad values) ∷ []) refl (modulus_number p (subst Modulus e h))))
 
 -- ---- a brief that is not refused
 

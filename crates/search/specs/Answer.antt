@@ -1,9 +1,8 @@
--- The search over the candidates of a brief, in the words of documents 01 and 02: what the call answers, and what the struct of the code says.
+-- The search over the candidates of a brief, in the words of documents 01 and 02: what the call answers, and what the result of the code says.
 -- Assumes nothing.
-use Rattle.std.specs.Prelude.{Bool, true, false, not, ◌&&◌, ◌||◌, List, [], ◌∷◌, ◌++◌, ℕ, ◌-◌, eqb, ltb, length, replicate}
-use Rattle.refusal.specs.Refusals.{number_of, Fault, fault, Answer, answer, answer_after}
-use Rattle.refusal.specs.declared.Outcome.{Outcome}
-use Rattle.refusal.specs.declared.Outcome.TheVariants.{Value, Refused}
+use Rattle.std.specs.Prelude.{Bool, true, false, not, ◌&&◌, ◌||◌, List, [], ◌∷◌, ◌++◌, ℕ, ◌-◌, eqb, ltb, length, replicate, Result}
+use Rattle.refusal.specs.declared.Refusal.{Refusal}
+use Rattle.refusal.specs.Refusals.{Fault, fault, Answer, answer_after, answer_by}
 use Rattle.field.specs.Faults.{call_faults}
 use Rattle.rows.specs.Lightest.{Best, nothing, found}
 use Rattle.rows.specs.Candidates.{some_too_large, some_bad}
@@ -11,7 +10,7 @@ use Rattle.rows.specs.declared.Family.{Family}
 use Rattle.rows.specs.declared.Family.TheVariants.{Hadamard, Circulant}
 use Rattle.rows.specs.Shape.{shape_of}
 use Rattle.rows.specs.Keys.{sum_of, lightest_row}
-use Rattle.search.specs.declared.SearchResult.{SearchResult}
+use Rattle.search.specs.declared.LightestRow.{LightestRow}
 
 -- ---- the call
 
@@ -72,13 +71,12 @@ search_answer family p n candidates =
     let best = lightest_row (shape_of family) p n candidates in
     answer_after no_row (search_faults family p n candidates best) (row_found p n best)
 
--- ---- what the struct says
+-- ---- what the code returns
 
--- what an outcome and a row say
-abbrev pub says_outcome : Outcome → List ℕ → Answer RowFound
-says_outcome (Value v) row = answer 0 (record { sum = v; row = row })
-says_outcome (Refused r) row = answer (number_of r) (record { sum = 0; row = row })
+-- the row that is told
+abbrev pub row_told : LightestRow → RowFound
+row_told r = record { sum = r.sum; row = r.row }
 
 -- the answer of a search
-abbrev pub says_search : SearchResult → Answer RowFound
-says_search s = says_outcome s.outcome s.row
+abbrev pub says_search : Result LightestRow Refusal → Answer RowFound
+says_search = answer_by row_told no_row

@@ -60,6 +60,11 @@ pub length_line_one : (s : List ℕ) → length (line_text (line_one s)) ≡ lin
 unfolding line_one line_one_length
 length_line_one s = omega (arith, length_line (kind_of s ∷ polynomial_of s ∷ order_of s ∷ count_of s ∷ further_of s), length_further s)
 
+-- as the code reads it: by the number in the first columns
+pub line_one_read : (s : List ℕ) {kind n : ℕ} → kind ≡ number_at s 0 → n ≡ line_one_length kind → n ≡ line_one_length (kind_of s)
+unfolding kind_of
+line_one_read s k e = e ∙ ap line_one_length k
+
 pub line_one_least : (kind : ℕ) → 25 ≤ line_one_length kind
 unfolding line_one_length
 line_one_least kind = omega arith

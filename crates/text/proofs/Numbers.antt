@@ -2,7 +2,10 @@
 -- Assumes nothing.
 use mathlib.Core.Path.{◌≡◌, sym, ap, ◌∙◌}
 use mathlib.Core.List.{List, ◌∷◌, ◌++◌}
-use Prim.Native.Nat.{ℕ, ◌+◌, ◌*◌, ◌/◌, ◌%◌, ◌≤◌}
+use Prim.Native.Nat.{ℕ, zero, suc, ◌+◌, ◌*◌, ◌/◌, ◌%◌, ◌^◌, ◌<◌, ◌≤◌}
+use native.Mathlib.Numerals.{add-one}
+use native.Mathlib.Nat.{add-zero, pow-suc, pow-le-pow_right}
+use Rattle.text.specs.Reading.{digit_at}
 use native.Mathlib.Nat.{div-eq_of_lt, div-div-eq-div-mul, div-add-mod', mod-eq_of_lt}
 use native.Mathlib.Omega.{arith}
 use native.Mathlib.Decide.{dec_lt}
@@ -15,6 +18,27 @@ use Rattle.text.specs.Reading.{number_at, value_at}
 pub number_six : (s : List ℕ) (at : ℕ) → number_at s at ≤ 999999
 unfolding number_at
 number_six s at = omega arith
+
+-- the number in the first n of the columns from byte `at` on
+unfoldable pub number_to : List ℕ → ℕ → ℕ → ℕ
+number_to s at zero = 0
+number_to s at (suc n) = number_to s at n * 10 + digit_at s (at + n)
+
+pub number_step : (s : List ℕ) (at n : ℕ) → number_to s at (n + 1) ≡ number_to s at n * 10 + digit_at s (at + n)
+unfolding number_to
+number_step s at n = rw add-one
+
+number_to_small : (s : List ℕ) (at n : ℕ) → number_to s at n < 10 ^ n
+unfolding number_to
+number_to_small s at zero = omega arith
+number_to_small s at (suc n) = omega (arith, number_to_small s at n, pow-suc 10 n)
+
+pub number_to_most : (s : List ℕ) (at n : ℕ) → n < 6 → number_to s at n ≤ 99999
+number_to_most s at n h = omega (arith, number_to_small s at n, pow-le-pow_right {n = 10} (omega arith) {i = n} {j = 5} (omega arith))
+
+pub number_to_six : (s : List ℕ) (at : ℕ) → number_to s at 6 ≡ number_at s at
+unfolding number_to number_at
+number_to_six s at = rw add-zero (omega arith)
 
 pub value_six : (s : List ℕ) (i : ℕ) → value_at s i ≤ 999999
 unfolding value_at

@@ -8,7 +8,8 @@ use native.Mathlib.Nat.{add-zero, zero-add, add-suc, suc-add}
 use native.Mathlib.Omega.{arith}
 use lib.ListN.{length, length-append, set, take, drop}
 use lib.Seq.{sets, length-sets, sets-eq, take_at}
-use Rattle.text.specs.Writing.{Put}
+use Rattle.text.specs.declared.Writer.{Writer}
+use Rattle.text.specs.Writing.{Put, Wrote}
 
 pub sets_append : (l : List ℕ) (at : ℕ) (a b : List ℕ) → sets l at (a ++ b) ≡ sets (sets l at a) (at + length a) b
 sets_append l at [] b = ap (λ (k : ℕ). sets l k b) (sym (add-zero at))
@@ -54,3 +55,27 @@ rest_step {l = l} {at = at} a b r p =
 
 pub rest_end : {l₀ l whole : List ℕ} {at₀ at : ℕ} → Rest l₀ at₀ whole l at [] → Put l₀ l at₀ whole at
 rest_end r = record { bytes = r.bytes; place = omega (arith, r.place) }
+
+-- the same of a writer: it is to have written `whole` from where `start` stands, and `rest` is still to be written
+pub record Left (start : Writer) (whole : List ℕ) (now : Writer) (rest : List ℕ) : Type 0 where
+  pub same_reference : now.space.ghost_name ≡ start.space.ghost_name
+  pub bytes : Rest start.space.now start.at whole now.space.now now.at rest
+
+pub left_start : (w : Writer) (whole : List ℕ) → Left w whole w whole
+left_start w whole = record { same_reference = refl; bytes = rest_start _ _ _ }
+
+pub left_step : {w₀ w w' : Writer} {whole : List ℕ} (a b : List ℕ) → Left w₀ whole w (a ++ b) → Wrote w w' a → Left w₀ whole w' b
+left_step a b r p = record { same_reference = p.same_reference ∙ r.same_reference; bytes = rest_step a b r.bytes p.put }
+
+pub left_end : {w₀ w : Writer} {whole : List ℕ} → Left w₀ whole w [] → Wrote w₀ w whole
+left_end r = record { same_reference = r.same_reference; put = rest_end r.bytes }
+
+-- what is left fits where the whole does
+pub left_room : {w₀ w : Writer} {whole rest : List ℕ} → w₀.at + length whole ≤ length w₀.space.now → Left w₀ whole w rest → w.at + length rest ≤ length w.space.now
+left_room h r = omega (arith, r.bytes.place, r.bytes.long)
+
+pub wrote_join : {w w' w'' : Writer} (a b : List ℕ) → Wrote w w' a → Wrote w' w'' b → Wrote w w'' (a ++ b)
+wrote_join a b p q = record { same_reference = q.same_reference ∙ p.same_reference; put = put_join a b p.put q.put }
+
+pub wrote_room : {w w' : Writer} (a b : List ℕ) → w.at + length (a ++ b) ≤ length w.space.now → Wrote w w' a → w'.at + length b ≤ length w'.space.now
+wrote_room a b h p = omega (arith, p.put.place, put_long a p.put, length-append a b)

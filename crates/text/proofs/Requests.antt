@@ -12,10 +12,13 @@ use native.Mathlib.Decide.{ℕ_discrete}
 use native.Mathlib.Omega.{arith}
 use lib.ListN.{length, get_or, take, drop, length-append}
 use lib.Seq.{drop_at}
-use Rattle.refusal.specs.Refusals.{first_number, Answer, answer, unless_refused, answer_after}
+use Rattle.std.specs.Prelude.{Ok, Err}
+use Rattle.refusal.specs.declared.Refusal.{Refusal}
+use Rattle.refusal.specs.Refusals.{number_of, first_number, Answer, answer, unless_refused, answer_after}
+use Rattle.refusal.proofs.Faults.{number_not_zero}
 use Rattle.text.specs.Text.{column, columns, line_text, line_end, value_text, further_numbers, request_text, SixDigits, InForm}
 use Rattle.text.specs.Reading.{number_at, value_at, values_from, numbers_from, kind_of, polynomial_of, order_of, count_of, further_of, budget_of, line_one_length, values_of, rewritten, in_form, says_header, header_answer}
-use Rattle.text.specs.declared.Header.TheVariants.{Refused, Read}
+use Rattle.text.specs.declared.Header.{Header}
 use Rattle.text.proofs.Numbers.{number_six, value_six, number_back}
 use Rattle.text.proofs.Lengths.{length_column, length_line, length_request, length_values_from, end_full, end_last, end_none}
 use Rattle.text.proofs.Compare.{same_self}
@@ -157,23 +160,26 @@ header_written k p o fs vs many six short =
     let (form, r) = written_read k p o fs vs many six short in
     rw (form, r.kind_is, r.polynomial_is, r.order_is, r.count_is, r.further_is)
 
-pub header_read : (text : List ℕ) (kind polynomial order count budget : ℕ) → says_header (Read kind polynomial order count budget) ≡ header_answer text
-    → (in_form text ≡ true) × (kind_of text ≡ kind) × (polynomial_of text ≡ polynomial) × (order_of text ≡ order) × (count_of text ≡ count) × (budget_of text ≡ budget)
+pub header_read : (text : List ℕ) (h : Header) → says_header (Ok h) ≡ header_answer text
+    → (in_form text ≡ true) × (kind_of text ≡ h.kind) × (polynomial_of text ≡ h.polynomial) × (order_of text ≡ h.order) × (count_of text ≡ h.count) × (budget_of text ≡ h.budget)
 unfolding header_answer answer_after first_number
-header_read s k p o n b = go (in_form s)
+header_read s h = go (in_form s)
   where
-    go : (t : Bool) → answer 0 (k ∷ p ∷ o ∷ n ∷ b ∷ []) ≡ unless_refused [] (cond (not t) 1 0) (kind_of s ∷ polynomial_of s ∷ order_of s ∷ count_of s ∷ budget_of s ∷ [])
-        → (t ≡ true) × (kind_of s ≡ k) × (polynomial_of s ≡ p) × (order_of s ≡ o) × (count_of s ≡ n) × (budget_of s ≡ b)
+    go : (t : Bool)
+        → answer 0 (h.kind ∷ h.polynomial ∷ h.order ∷ h.count ∷ h.budget ∷ []) ≡ unless_refused [] (cond (not t) 1 0) (kind_of s ∷ polynomial_of s ∷ order_of s ∷ count_of s ∷ budget_of s ∷ [])
+        → (t ≡ true) × (kind_of s ≡ h.kind) × (polynomial_of s ≡ h.polynomial) × (order_of s ≡ h.order) × (count_of s ≡ h.count) × (budget_of s ≡ h.budget)
     go true e = let l = ap (λ (a : Answer (List ℕ)). a.value) e in (refl, (cc), (cc), (cc), (cc), (cc))
     go false e = let z : ◌≡◌ {A = ℕ} 0 1 = ap (λ (a : Answer (List ℕ)). a.number) e in let y : ⊥ = omega arith in absurd y
 
-pub header_refused : (text : List ℕ) → says_header Refused ≡ header_answer text → in_form text ≡ false
+-- only a text that is not in form is refused, and with 1
+pub header_refused : (text : List ℕ) (r : Refusal) → says_header (Err r) ≡ header_answer text → (in_form text ≡ false) × (number_of r ≡ 1)
 unfolding header_answer answer_after first_number
-header_refused s = go (in_form s)
+header_refused s r = go (in_form s)
   where
-    go : (t : Bool) → answer 1 [] ≡ unless_refused [] (cond (not t) 1 0) (kind_of s ∷ polynomial_of s ∷ order_of s ∷ count_of s ∷ budget_of s ∷ []) → t ≡ false
-    go true e = let z : ◌≡◌ {A = ℕ} 1 0 = ap (λ (a : Answer (List ℕ)). a.number) e in let y : ⊥ = omega arith in absurd y
-    go false e = refl
+    go : (t : Bool) → answer (number_of r) [] ≡ unless_refused [] (cond (not t) 1 0) (kind_of s ∷ polynomial_of s ∷ order_of s ∷ count_of s ∷ budget_of s ∷ [])
+        → (t ≡ false) × (number_of r ≡ 1)
+    go true e = absurd (number_not_zero r (ap (λ (a : Answer (List ℕ)). a.number) e))
+    go false e = (refl, ap (λ (a : Answer (List ℕ)). a.number) e)
 
 -- count 0 is line one alone; the longest text has 671 values and 4,093 bytes
 pub no_values : (kind polynomial order : ℕ) (further : List ℕ) → request_text kind polynomial order further [] ≡ line_text (kind ∷ polynomial ∷ order ∷ 0 ∷ further)

@@ -1,10 +1,10 @@
 -- Numbers taken from their columns, and the test whether a text is in form. A number is read without a look at its spaces;
 -- the text is in form if the request text of the numbers read is the text itself (`in_form_exactly` of proofs/Requests.antt: this is InForm).
 -- Assumes nothing.
-use Rattle.std.specs.Prelude.{Bool, true, false, not, ◌&&◌, List, [], ◌∷◌, ℕ, zero, suc, ◌+◌, ◌*◌, ◌/◌, ◌%◌, length, get_or, drop, leb, eqb}
-use Rattle.refusal.specs.Refusals.{fault, Answer, answer, answer_after}
+use Rattle.std.specs.Prelude.{Bool, true, false, not, ◌&&◌, List, [], ◌∷◌, ℕ, zero, suc, ◌+◌, ◌*◌, ◌/◌, ◌%◌, length, get_or, drop, leb, eqb, Result}
+use Rattle.refusal.specs.declared.Refusal.{Refusal}
+use Rattle.refusal.specs.Refusals.{fault, Answer, answer_by, answer_after}
 use Rattle.text.specs.declared.Header.{Header}
-use Rattle.text.specs.declared.Header.TheVariants.{Refused, Read}
 use Rattle.text.specs.Text.{further_numbers, request_text}
 
 -- the digit in a column: 0 to 9 of bytes 48 to 57, and 0 of a space. Any other byte gives some digit too.
@@ -80,10 +80,9 @@ same_bytes (a ∷ s) (b ∷ t) = eqb a b && same_bytes s t
 unfoldable pub in_form : List ℕ → Bool
 in_form s = leb (length s) 4096 && same_bytes s (rewritten s)
 
--- what the reading of line one says: 1 where the text is refused, else kind, polynomial, order, count and budget
-abbrev pub says_header : Header → Answer (List ℕ)
-says_header Refused = answer 1 []
-says_header (Read kind polynomial order count budget) = answer 0 (kind ∷ polynomial ∷ order ∷ count ∷ budget ∷ [])
+-- what the reading of line one says: the number of the refusal where the text is refused, else kind, polynomial, order, count and budget
+abbrev pub says_header : Result Header Refusal → Answer (List ℕ)
+says_header = answer_by (λ header. header.kind ∷ header.polynomial ∷ header.order ∷ header.count ∷ header.budget ∷ []) []
 
 -- line one of a text; 1: not of the form
 unfoldable pub header_answer : List ℕ → Answer (List ℕ)

@@ -5,7 +5,7 @@ use mathlib.Core.List.{List, Memᴰ}
 use Prim.Native.Nat.{ℕ, suc, ◌+◌, ◌-◌, ◌^◌, ◌≤◌, ◌<◌, min}
 use native.Mathlib.Omega.{arith}
 use native.Mathlib.Decide.{dec_lt}
-use lib.ListN.{length, get_or, take, replicate}
+use lib.ListN.{length, get_or}
 use Rattle.algebra.specs.Matrix.{tabulate}
 use Rattle.algebra.proofs.Words.{length_tabulate, tabulate_mem}
 use Rattle.field.specs.Polynomial.{Modulus, degree}
@@ -16,21 +16,20 @@ use Rattle.rows.specs.Candidates.{some_too_large, some_bad}
 use Rattle.rows.specs.Walks.{lower_bound}
 use Rattle.rows.specs.Steps.Orders.{SearchOrder}
 use Rattle.rows.proofs.Rows.{mem_ascending, get_d_mem}
-use Rattle.lightest.specs.declared.letters.Letters.{Letters}
-use Rattle.lightest.specs.Steps.Letters.{count_table, known, listed}
+use Rattle.std.specs.Prelude.{Option, None}
+use Rattle.lightest.specs.Steps.Letters.{count_table, known}
 use Rattle.lightest.specs.Steps.Prefix.{kept}
-use Rattle.lightest.proofs.LetterCounts.{known_ascending, listed_take, member_nonzero}
+use Rattle.lightest.proofs.LetterCounts.{known_ascending, member_nonzero}
 use Rattle.lightest.proofs.Start.{table_same}
 use Rattle.walk.specs.declared.Position.{Position}
 use Rattle.walk.specs.declared.Walk.{Walk}
-use Rattle.walk.specs.Steps.Successors.{Ascend, first_row, eight}
+use Rattle.walk.specs.Steps.Successors.{Ascend, FirstIs}
 use Rattle.walk.specs.Steps.Bound.{bound_of}
-use Rattle.walk.specs.Steps.Positions.{rows_of, position_at, Lettered, IsWalk, walk_at}
+use Rattle.walk.specs.Steps.Positions.{rows_of, next_after, position_at, Lettered, IsWalk, walk_at}
 use Rattle.walk.proofs.Successors.{places_le, sorted_different}
 use Rattle.walk.proofs.Ranks.{sorted_ascend}
-use Rattle.walk.proofs.Behind.{row_first}
 use Rattle.walk.proofs.EightSmallest.{bound_of_holds}
-use Rattle.walk.proofs.Positions.{letters_own, letters_sorted, letters_below, letters_bytes, as_position, position_tried, position_stands, same_position}
+use Rattle.walk.proofs.Positions.{letters_own, letters_sorted, letters_below, letters_bytes, as_position, first_is, position_tried, position_stands, same_position}
 
 -- ---- the letters of a brief
 
@@ -48,8 +47,8 @@ brief_lettered p n h o cs fits fair =
     }
 
 -- the list that the code makes of the table
-pub letters_taken : (counts : List ℕ) (r : Letters) (p bound : ℕ) → bound ≡ 2 ^ degree p → r ≡ listed (known counts bound) → take r.count r.list ≡ known counts (2 ^ degree p)
-letters_taken counts r p bound e is = listed_take r (known counts bound) is ∙ ap (known counts) e
+pub letters_taken : (counts l items : List ℕ) (p bound : ℕ) → l ≡ items → items ≡ known counts bound → bound ≡ 2 ^ degree p → l ≡ known counts (2 ^ degree p)
+letters_taken counts l items p bound d is e = d ∙ is ∙ ap (known counts) e
 
 module _ {p n : ℕ} {letters counts : List ℕ} (b : Lettered p n letters counts) where
   pub letters_ascend : Ascend letters
@@ -78,12 +77,12 @@ module _ {p n : ℕ} {letters counts : List ℕ} (b : Lettered p n letters count
   letters_bound = ap (bound_of p n) (letters_own b) ∙ sym (bound_of_holds p n letters)
 
   -- before the first row
-  pub first_position : as_position b (eight n (first_row letters n)) 0 (record { found = false; row = replicate 8 0; count = 0; depth = 0 }) ≡ position_at p n letters 0
+  pub first_position : (row : Option (List ℕ)) → FirstIs letters n row → as_position b row 0 None ≡ position_at p n letters 0
   unfolding position_at kept lightest keep_all
-  first_position =
+  first_position row first =
       let none : 0 ≡ min 0 (length (rows_of letters n)) = omega arith in
-      ap (λ (r : List ℕ). as_position b (eight n r) 0 (record { found = false; row = replicate 8 0; count = 0; depth = 0 })) (row_first (letters_sorted b) b.positive n)
-      ∙ ap (λ (k : ℕ). as_position b (eight n (get_or (rows_of letters n) 0 (replicate n 0))) k (record { found = false; row = replicate 8 0; count = 0; depth = 0 })) none
+      ap (λ (r : Option (List ℕ)). as_position b r 0 None) (first_is b row first)
+      ∙ ap (λ (k : ℕ). as_position b (next_after n (rows_of letters n) 0) k None) none
 
 -- ---- the struct of a walk
 
@@ -91,14 +90,12 @@ abbrev as_walk : ℕ → ℕ → List ℕ → Position → Walk
 as_walk p n counts position = record { polynomial = p; order = n; counts = counts; position = position }
 
 -- the walk of a brief starts before its first row
-pub walk_starts : {p n : ℕ} {table : List ℕ} → Lettered p n (known table (2 ^ degree p)) table → (counts l row : List ℕ) → counts ≡ table → l ≡ known table (2 ^ degree p)
-    → row ≡ eight n (first_row l n)
-    → as_walk p n counts (record { row = row; tried = 0; best = record { found = false; row = replicate 8 0; count = 0; depth = 0 } }) ≡ walk_at p n table 0
+pub walk_starts : {p n : ℕ} {table : List ℕ} → Lettered p n (known table (2 ^ degree p)) table → (counts l : List ℕ) (row : Option (List ℕ)) → counts ≡ table
+    → l ≡ known table (2 ^ degree p) → FirstIs l n row → as_walk p n counts (record { row = row; tried = 0; best = None }) ≡ walk_at p n table 0
 unfolding walk_at
 walk_starts {p} {n} {table} b counts l row e d f =
-    ap (λ (c : List ℕ). as_walk p n c (record { row = row; tried = 0; best = record { found = false; row = replicate 8 0; count = 0; depth = 0 } })) e
-    ∙ ap (λ (r : List ℕ). as_walk p n table (as_position b r 0 (record { found = false; row = replicate 8 0; count = 0; depth = 0 }))) (f ∙ ap (λ (l : List ℕ). eight n (first_row l n)) d)
-    ∙ ap (as_walk p n table) (first_position b)
+    ap (λ (c : List ℕ). as_walk p n c (record { row = row; tried = 0; best = None })) e
+    ∙ ap (as_walk p n table) (first_position b row (subst (λ (l : List ℕ). FirstIs l n row) d f))
 
 -- the walk after t rows is a walk
 pub walk_at_holds : {p n : ℕ} {table : List ℕ} → Lettered p n (known table (2 ^ degree p)) table → (walk : Walk) (t : ℕ) → walk ≡ walk_at p n table t → IsWalk walk

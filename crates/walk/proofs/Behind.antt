@@ -65,17 +65,24 @@ module _ {letters : List ℕ} (ascends : Sorted ◌<◌ letters) (positive : (a 
           let l = sorted_last sorted_rows_of t row h here (λ x m. none x ((mem_rows_of letters n x).0 m)) in
           e ∙ sym (get_or-eq_default (rows_of letters n) zeros {n = suc t} (omega arith))
 
+  -- there is no row where there are fewer letters than places, and else there is one
+  pub rows_none : length letters < n → rows_of letters n ≡ []
+  rows_none h = unfold rows_of in few_arranged letters n h
+
+  rows_first : n ≤ length letters → (0 < length (rows_of letters n)) × (get_or (rows_of letters n) 0 [] ≡ first_row letters n)
+  rows_first enough =
+      sorted_first sorted_rows_of (first_row letters n) ((mem_rows_of letters n _).1 (first_arranged ascends positive n enough)) (λ x m. first_least ascends positive n enough x ((mem_rows_of letters n x).0 m))
+
+  pub rows_some : n ≤ length letters → 0 < length (rows_of letters n)
+  rows_some enough = (rows_first enough).0
+
   -- the first row is row 0, all zeros where there is none
   pub row_first : first_row letters n ≡ get_or (rows_of letters n) 0 (replicate n 0)
   row_first = elim (dec_lt (length letters) n) [
     | yes h ↦
         (first_none ascends positive n h).0
-        ∙ sym (ap (λ (l : List (List ℕ)). get_or l 0 zeros) (none h))
+        ∙ sym (ap (λ (l : List (List ℕ)). get_or l 0 zeros) (rows_none h))
     | no h ↦
-        let enough : n ≤ length letters = omega arith in
-        let (l, e) = sorted_first sorted_rows_of (first_row letters n) ((mem_rows_of letters n _).1 (first_arranged ascends positive n enough)) (λ x m. first_least ascends positive n enough x ((mem_rows_of letters n x).0 m)) in
+        let (l, e) = rows_first (omega arith) in
         sym e ∙ get_d_inside (rows_of letters n) 0 [] zeros l
   ]
-    where
-      none : length letters < n → rows_of letters n ≡ []
-      none h = unfold rows_of in few_arranged letters n h

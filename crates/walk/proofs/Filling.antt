@@ -4,10 +4,11 @@ use mathlib.Core.List.{List, [], ◌∷◌, ◌++◌}
 use Prim.Native.Nat.{ℕ, suc, ◌+◌, ◌-◌, ◌≤◌, ◌<◌}
 use native.Mathlib.Numerals.{add-one}
 use native.Mathlib.Omega.{arith}
-use lib.ListN.{length, get_or, take, drop, set, replicate, length-replicate, replicate-append-replicate, take-append-drop}
-use lib.Seq.{take-suc-set, take-take, get_or-take, drop_at}
+use lib.ListN.{length, get_or, take, drop, set, replicate, length-replicate, length-set, replicate-append-replicate, take-append-drop, get_or-append}
+use lib.Seq.{take-suc-set, take-take, get_or-take, get_or-set_same, length-take-le, drop_at}
 use borrow.Author.Tests.{eq-eqb, ne_eqb}
 use Rattle.walk.specs.Steps.Successors.{free_above, eight, filled_up, raised_or, raised_below}
+use Rattle.walk.proofs.Successors.{fill_front, fill_length}
 
 module _ (letters : List ℕ) where
   -- one letter more
@@ -78,3 +79,15 @@ raise_end letters row n i e = rw e refl
 -- the zeros behind a row of zeros
 pub drop_zeros : (n : ℕ) → n ≤ 8 → drop {A = ℕ} n (replicate 8 0) ≡ replicate (8 - n) 0
 drop_zeros n h = ap (drop n) (eight_zeros n h) ∙ drop_at (replicate n 0) (replicate (8 - n) 0) n (length-replicate n 0)
+
+-- the letter that a place is raised to stands there
+pub raised_there : (letters row : List ℕ) (n j v : ℕ) → j < n → n ≤ length row
+    → get_or (eight n (filled_up letters (take (j + 1) (set row j v)) (n - (j + 1)))) j 0 ≡ v
+raised_there letters row n j v l h =
+    let start = take (j + 1) (set row j v) in
+    let long : length start ≡ j + 1 = length-take-le (j + 1) (set row j v) (omega (arith, length-set row j v)) in
+    let filled = fill_length letters start (n - (j + 1)) in
+    get_or-append (filled_up letters start (n - (j + 1))) (replicate (8 - n) 0) 0 j (omega arith)
+    ∙ fill_front letters start (n - (j + 1)) j (omega arith)
+    ∙ get_or-take (j + 1) (set row j v) j 0 (omega arith)
+    ∙ get_or-set_same row j v 0 (omega arith)

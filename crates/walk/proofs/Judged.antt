@@ -9,6 +9,7 @@ use lib.Dec.{eqb, leb, ltb}
 use lib.ListN.{length, get_or, take}
 use lib.Seq.{take-take, get_or-take}
 use borrow.Author.Tests.{eqb-true, eq-eqb, ne_eqb, lt-ltb, le-ltb, le-leb, lt-leb}
+use Rattle.std.specs.Prelude.{Option, Some}
 use Rattle.field.specs.Polynomial.{◌⊕◌}
 use Rattle.field.specs.Steps.{every_below}
 use Rattle.matrix.proofs.Squares.{each_every, every_each}
@@ -130,7 +131,7 @@ lighter_exactly p n (found b) r =
     ⊎_elim (λ (l : Less s d u e). lt-ltb _ _ (key_lt p n r b l) ∙ ap not (sym (pairs_fail u e s d l)))
     (λ (l : LessOrSame u e s d). le-ltb _ _ (key_le p n b r l) ∙ ap not (sym (pairs_pass_holds u e s d l))) (compare_pairs s d u e)
 
-module _ (good : List ℕ → Bool) (p n : ℕ) (b : Kept) (holds : b ≡ kept p n (best_as n b)) (r : List ℕ) where
+module _ (good : List ℕ → Bool) (p n : ℕ) (b : Option Kept) (holds : b ≡ kept p n (best_as n b)) (r : List ℕ) where
   -- the row kept after r
   abbrev kept_after : Best
   kept_after = keep good (key_of p n) (best_as n b) r
@@ -140,14 +141,16 @@ module _ (good : List ℕ → Bool) (p n : ℕ) (b : Kept) (holds : b ≡ kept p
   unfolding keep
   keeps_bad e = holds ∙ ap (λ t. kept p n (cond (t && lighter (key_of p n) (best_as n b) r) (found r) (best_as n b))) (sym e)
 
-  module _ (t : good r ≡ true) (new : Kept) (is : new ≡ kept p n (found r)) where
+  module _ (t : good r ≡ true) (new : Kept) (is : Some new ≡ kept p n (found r)) where
     -- it is lighter where the test fails
     lighter_own : lighter (key_of p n) (best_as n b) r ≡ not (is_heavy b new.count new.depth)
     unfolding kept
     lighter_own =
+        let count : sum_of p n r ≡ new.count = cc in
+        let depth : depth_of_row p n r ≡ new.depth = cc in
         lighter_exactly p n (best_as n b) r
-        ∙ ap (λ (x : Kept). not (is_heavy x (sum_of p n r) (depth_of_row p n r))) (sym holds)
-        ∙ ap (λ (x : Kept). not (is_heavy b x.count x.depth)) (sym is)
+        ∙ ap (λ (x : Option Kept). not (is_heavy x (sum_of p n r) (depth_of_row p n r))) (sym holds)
+        ∙ ap₂ (λ (s d : ℕ). not (is_heavy b s d)) count depth
 
     keep_own : kept_after ≡ cond (not (is_heavy b new.count new.depth)) (found r) (best_as n b)
     unfolding keep
@@ -158,5 +161,5 @@ module _ (good : List ℕ → Bool) (p n : ℕ) (b : Kept) (holds : b ≡ kept p
     keeps_heavy e = holds ∙ ap (kept p n) (sym (keep_own ∙ ap (λ u. cond (not u) (found r) (best_as n b)) e))
 
     -- it is lighter, or as heavy and shallower
-    pub keeps_light : is_heavy b new.count new.depth ≡ false → new ≡ kept p n kept_after
+    pub keeps_light : is_heavy b new.count new.depth ≡ false → Some new ≡ kept p n kept_after
     keeps_light e = is ∙ ap (kept p n) (sym (keep_own ∙ ap (λ u. cond (not u) (found r) (best_as n b)) e))

@@ -7,4 +7,4 @@ pub mod Judged
 pub mod EightSmallest
 pub mod Positions
 pub mod Begun
-pub mod Told
+pub mod Telling

@@ -1,12 +1,16 @@
 -- Where a walk stands: one step leads from the position after t rows to that after t + 1, and behind the last row nothing moves.
 -- Assumes nothing.
 use mathlib.Core.Path.{◌≡◌, refl, sym, ap, subst, ◌∙◌}
-use mathlib.Core.List.{List, [], Memᴰ}
-use Prim.Native.Nat.{ℕ, suc, ◌+◌, ◌-◌, ◌^◌, ◌≤◌, ◌<◌, min}
+use mathlib.Core.Bool.{true≢false}
+use mathlib.Core.List.{List, [], ◌∷◌, Memᴰ}
+use Prim.Native.Nat.{ℕ, zero, suc, ◌+◌, ◌-◌, ◌^◌, ◌≤◌, ◌<◌, min}
 use native.Mathlib.Omega.{arith}
 use native.Mathlib.Decide.{dec_lt}
 use lib.ListN.{length, get_or, take, drop, replicate, length-replicate, get_or-replicate, get_or-append, get_or-eq_default}
 use lib.Seq.{take_at, drop_at, take_all}
+use Rattle.std.specs.Prelude.{Option, None, Some, slice_get}
+use Rattle.std.specs.Option.{option_map, unwrap_or, is_some}
+use Rattle.std.proofs.lemmas.Option.{slice_get-get_or}
 use Rattle.algebra.specs.Matrix.{words}
 use Rattle.field.specs.Polynomial.{degree}
 use Rattle.field.proofs.Calls.{elements_most}
@@ -25,17 +29,23 @@ use Rattle.cuts.specs.Steps.Families.{hadamard_cuts}
 use Rattle.cuts.proofs.HadamardCuts.{order_most, order_least}
 use Rattle.cuts.proofs.WalkCuts.{tried_walked}
 use Rattle.lightest.specs.Steps.Letters.{known}
-use Rattle.lightest.specs.Steps.Prefix.{kept, best_as}
+use Rattle.lightest.specs.Steps.Prefix.{kept, best_as, Long}
 use Rattle.lightest.proofs.LetterCounts.{known_ascending, table_count}
-use Rattle.lightest.proofs.Prefixes.{Long, best_is, kept_own}
+use Rattle.lightest.proofs.Prefixes.{best_is, kept_own}
 use Rattle.lightest.specs.declared.Best.{Best as Kept}
 use Rattle.walk.specs.declared.Position.{Position}
-use Rattle.walk.specs.Steps.Successors.{Ranked, rank_table, row_behind, eight}
+use Rattle.walk.specs.Steps.Successors.{Ranked, rank_table, row_behind, BehindIs, FirstIs, eight}
 use Rattle.walk.specs.Steps.Judging.{Judging}
-use Rattle.walk.specs.Steps.Positions.{rows_of, position_at, Lettered, Tabled, StandsAt}
+use Rattle.walk.specs.Steps.Positions.{rows_of, next_after, position_at, Lettered, Tabled, StandsAt}
 use Rattle.walk.proofs.Successors.{Arranged}
 use Rattle.walk.proofs.Ranks.{sorted_ascend}
-use Rattle.walk.proofs.Behind.{mem_rows_of, row_behind_holds, get_d_inside}
+use Rattle.walk.proofs.Behind.{mem_rows_of, row_behind_holds, get_d_inside, row_first, rows_none, rows_some}
+
+-- there is nothing behind the end of a list
+past : {A : Type 0} (l : List A) (i : ℕ) → length l ≤ i → slice_get l i ≡ None
+past [] i h = refl
+past (x ∷ l) zero h = absurd (omega arith)
+past (x ∷ l) (suc i) h = past l i (omega arith)
 
 module _ {p n : ℕ} {letters counts : List ℕ} (b : Lettered p n letters counts) where
   -- ---- the letters
@@ -103,13 +113,61 @@ module _ {p n : ℕ} {letters counts : List ℕ} (b : Lettered p n letters count
     pub row_nonzero : get_or row 0 0 ≡ 0 → ⊥
     row_nonzero e = omega (arith, b.positive _ (row_letter 0 (order_least n b.order)))
 
-  -- behind the last row there are zeros
-  pub no_row : (t : ℕ) → length (rows_of letters n) ≤ t → (row : List ℕ) → row ≡ eight n (get_or (rows_of letters n) t (replicate n 0)) → get_or row 0 0 ≡ 0
-  no_row t h row is =
-      let none = get_or-eq_default (rows_of letters n) (replicate n 0) {n = t} h in
-      ap (λ (r : List ℕ). get_or r 0 0) (is ∙ ap (eight n) none)
-      ∙ get_or-append (replicate n 0) (replicate (8 - n) 0) 0 0 (omega (arith, length-replicate {A = ℕ} n 0, order_least n b.order))
-      ∙ get_or-replicate {A = ℕ} n 0 0 0 (order_least n b.order)
+  -- ---- the array of the next row
+
+  pub next_there : (t : ℕ) → t < length (rows_of letters n) → next_after n (rows_of letters n) t ≡ Some (eight n (get_or (rows_of letters n) t (replicate n 0)))
+  next_there t h = ap (option_map (eight n)) (slice_get-get_or (rows_of letters n) t (replicate n 0) h)
+
+  pub next_none : (t : ℕ) → length (rows_of letters n) ≤ t → next_after n (rows_of letters n) t ≡ None
+  next_none t h = ap (option_map (eight n)) (past (rows_of letters n) t h)
+
+  zeros_at : (i : ℕ) → i < n → get_or (eight n (replicate n 0)) i 0 ≡ 0
+  zeros_at i l =
+      get_or-append (replicate n 0) (replicate (8 - n) 0) 0 i (omega (arith, length-replicate {A = ℕ} n 0)) ∙ get_or-replicate {A = ℕ} n i 0 0 l
+
+  -- what is found behind row t
+  pub next_is : (t : ℕ) → t < length (rows_of letters n) → (row : List ℕ) → row ≡ eight n (get_or (rows_of letters n) t (replicate n 0))
+      → (found : Option (List ℕ)) → BehindIs letters n (take n row) found → found ≡ next_after n (rows_of letters n) (suc t)
+  next_is t h row is found e = go found e
+    where
+      same : row_behind letters n (take n row) ≡ row_at (suc t)
+      same = ap (row_behind letters n) (row_take t h row is) ∙ row_behind_holds letters_sorted b.positive n t h
+
+      go : (found : Option (List ℕ)) → BehindIs letters n (take n row) found → found ≡ next_after n (rows_of letters n) (suc t)
+      go None e = sym (next_none (suc t) (elim (dec_lt (suc t) (length (rows_of letters n))) [
+        | yes l ↦
+            absurd
+            (row_nonzero (suc t) l (eight n (row_at (suc t))) refl
+            (ap (λ (r : List ℕ). get_or (eight n r) 0 0) (sym same ∙ e) ∙ zeros_at 0 (order_least n b.order)))
+        | no l ↦ omega arith
+      ]))
+      go (Some r) (e, (i, l, some)) = elim (dec_lt (suc t) (length (rows_of letters n))) [
+        | yes k ↦ ap Some (e ∙ ap (eight n) same) ∙ sym (next_there (suc t) k)
+        | no k ↦
+            absurd
+            (let zero = ap (λ (q : List ℕ). get_or q i 0) (e ∙ ap (eight n) (same ∙ get_or-eq_default (rows_of letters n) (replicate n 0) {n = suc t} (omega arith))) ∙ zeros_at i l in
+            omega arith)
+      ]
+
+  -- and before the first row
+  pub first_is : (found : Option (List ℕ)) → FirstIs letters n found → found ≡ next_after n (rows_of letters n) 0
+  first_is None h = sym (next_none 0 (omega (arith, ap length (rows_none letters_sorted b.positive n h))))
+  first_is (Some r) (enough, e) =
+      ap Some (e ∙ ap (eight n) (row_first letters_sorted b.positive n)) ∙ sym (next_there 0 (rows_some letters_sorted b.positive n enough))
+
+  -- a next row is there: so are rows that are not tried
+  pub some_left : (t : ℕ) (row : List ℕ) → Some row ≡ next_after n (rows_of letters n) t → t < length (rows_of letters n)
+  some_left t row e = elim (dec_lt t (length (rows_of letters n))) [
+    | yes h ↦ h
+    | no h ↦ absurd (true≢false (ap is_some (e ∙ next_none t (omega arith))))
+  ]
+
+  -- none is there: all are tried
+  pub none_left : (t : ℕ) → next_after n (rows_of letters n) t ≡ None → length (rows_of letters n) ≤ t
+  none_left t e = elim (dec_lt t (length (rows_of letters n))) [
+    | yes h ↦ absurd (true≢false (ap is_some (sym (next_there t h) ∙ e)))
+    | no h ↦ omega arith
+  ]
 
   -- ---- the best row
 
@@ -142,27 +200,25 @@ module _ {p n : ℕ} {letters counts : List ℕ} (b : Lettered p n letters count
 
   -- ---- the position
 
-  abbrev pub as_position : List ℕ → ℕ → Kept → Position
+  abbrev pub as_position : Option (List ℕ) → ℕ → Option Kept → Position
   as_position row tried best = record { row = row; tried = tried; best = best }
 
   -- after one row more
-  pub next_position : (t : ℕ) → t < length (rows_of letters n) → (row : List ℕ) → row ≡ eight n (row_at t) → (best : Kept) → best ≡ kept p n (best_after t)
-      → (behind : List ℕ) → behind ≡ eight n (row_behind letters n (take n row)) → (held : Kept)
+  pub next_position : (t : ℕ) → t < length (rows_of letters n) → (row : List ℕ) → row ≡ eight n (row_at t) → (best : Option Kept) → best ≡ kept p n (best_after t)
+      → (behind : Option (List ℕ)) → BehindIs letters n (take n row) behind → (held : Option Kept)
       → held ≡ kept p n (keep (tried (hadamard_cuts p n) p n) (key_of p n) (best_as n best) (take n row))
       → as_position behind (t + 1) held ≡ position_at p n letters (suc t)
   unfolding position_at
   next_position t h row is best holds behind e held d =
-      let after : behind ≡ eight n (row_at (suc t)) =
-      e ∙ ap (λ (r : List ℕ). eight n (row_behind letters n r)) (row_take t h row is) ∙ ap (eight n) (row_behind_holds letters_sorted b.positive n t h) in
       let more : t + 1 ≡ min (suc t) (length (rows_of letters n)) = omega arith in
       let new : held ≡ kept p n (best_after (suc t)) =
       d
       ∙ ap (λ (x : Best). kept p n (keep (tried (hadamard_cuts p n) p n) (key_of p n) x (take n row))) (best_is p n best (best_after t) (best_long t) holds)
       ∙ ap (λ (r : List ℕ). kept p n (keep (tried (hadamard_cuts p n) p n) (key_of p n) (best_after t) r)) (row_take t h row is)
       ∙ ap (kept p n) (best_more t h) in
-      ap (λ (r : List ℕ). as_position r (t + 1) held) after
-      ∙ ap (λ (k : ℕ). as_position (eight n (row_at (suc t))) k held) more
-      ∙ ap (λ (x : Kept). as_position (eight n (row_at (suc t))) (min (suc t) (length (rows_of letters n))) x) new
+      ap (λ (r : Option (List ℕ)). as_position r (t + 1) held) (next_is t h row is behind e)
+      ∙ ap (λ (k : ℕ). as_position (next_after n (rows_of letters n) (suc t)) k held) more
+      ∙ ap (λ (x : Option Kept). as_position (next_after n (rows_of letters n) (suc t)) (min (suc t) (length (rows_of letters n))) x) new
 
   -- behind the last row it does not move
   pub same_position : (t u : ℕ) → length (rows_of letters n) ≤ t → length (rows_of letters n) ≤ u → position_at p n letters t ≡ position_at p n letters u
@@ -170,11 +226,10 @@ module _ {p n : ℕ} {letters counts : List ℕ} (b : Lettered p n letters count
     where
       end_position : (t : ℕ) → length (rows_of letters n) ≤ t → position_at p n letters t ≡ position_at p n letters (length (rows_of letters n))
       end_position t h = unfold position_at in (
-          ap (λ (r : List ℕ). as_position (eight n r) (min t (length (rows_of letters n))) (kept p n (best_after t)))
-          (get_or-eq_default (rows_of letters n) (replicate n 0) {n = t} h
-          ∙ sym (get_or-eq_default (rows_of letters n) (replicate n 0) {n = length (rows_of letters n)} (omega arith)))
-          ∙ ap (λ (k : ℕ). as_position (eight n (row_at (length (rows_of letters n)))) k (kept p n (best_after t))) (omega arith)
-          ∙ ap (λ (l : List (List ℕ)). as_position (eight n (row_at (length (rows_of letters n)))) (min (length (rows_of letters n)) (length (rows_of letters n)))
+          ap (λ (r : Option (List ℕ)). as_position r (min t (length (rows_of letters n))) (kept p n (best_after t)))
+          (next_none t h ∙ sym (next_none (length (rows_of letters n)) (omega arith)))
+          ∙ ap (λ (k : ℕ). as_position (next_after n (rows_of letters n) (length (rows_of letters n))) k (kept p n (best_after t))) (omega arith)
+          ∙ ap (λ (l : List (List ℕ)). as_position (next_after n (rows_of letters n) (length (rows_of letters n))) (min (length (rows_of letters n)) (length (rows_of letters n)))
           (kept p n (lightest (is_good hadamard_shape p n) (key_of p n) l)))
           (take_all t (rows_of letters n) h ∙ sym (take_all (length (rows_of letters n)) (rows_of letters n) (omega arith)))
           )
@@ -184,7 +239,7 @@ module _ {p n : ℕ} {letters counts : List ℕ} (b : Lettered p n letters count
   unfolding position_at
   position_tried t = refl
 
-  pub position_row : (t : ℕ) → (position_at p n letters t).row ≡ eight n (row_at t)
+  pub position_row : (t : ℕ) → (position_at p n letters t).row ≡ next_after n (rows_of letters n) t
   unfolding position_at
   position_row t = refl
 
@@ -195,32 +250,38 @@ module _ {p n : ℕ} {letters counts : List ℕ} (b : Lettered p n letters count
 -- ---- one step
 
 -- what a step requires of the functions that it calls, at a position with a next row
-module _ {p n : ℕ} {letters counts ranks ones products : List ℕ} (tables : Tabled p n letters counts ranks ones products)
-    (at : Position) (stands : StandsAt p n letters at) (left : at.tried < length (rows_of letters n)) where
-  pub stands_row : at.row ≡ eight n (get_or (rows_of letters n) at.tried (replicate n 0))
+module _ {p ones n : ℕ} {letters counts ranks : List ℕ} (tables : Tabled p ones n letters counts ranks)
+    (at : Position) (stands : StandsAt p n letters at) (row : List ℕ) (is : at.row ≡ Some row) where
+  stands_next : Some row ≡ next_after n (rows_of letters n) at.tried
   unfolding StandsAt
-  stands_row = ap (λ (x : Position). x.row) stands.1 ∙ position_row tables.lettered at.tried
+  stands_next = sym is ∙ ap (λ (x : Position). x.row) stands.1 ∙ position_row tables.lettered at.tried
 
-  pub stands_best : at.best ≡ kept p n (best_after tables.lettered at.tried)
+  pub left : at.tried < length (rows_of letters n)
+  left = some_left tables.lettered at.tried row stands_next
+
+  pub stands_row : row ≡ eight n (get_or (rows_of letters n) at.tried (replicate n 0))
+  stands_row = ap (λ (o : Option (List ℕ)). unwrap_or o []) (stands_next ∙ next_there tables.lettered at.tried left)
+
+  stands_best : at.best ≡ kept p n (best_after tables.lettered at.tried)
   unfolding StandsAt
   stands_best = ap (λ (x : Position). x.best) stands.1 ∙ position_best tables.lettered at.tried
 
-  pub step_judging : Judging p n at.row
+  pub step_judging : Judging p n row
   step_judging =
       record {
         modulus = tables.lettered.modulus;
         order = tables.lettered.order;
-        in_field = row_words tables.lettered at.tried left at.row stands_row;
-        rest = row_rest tables.lettered at.tried left at.row stands_row;
+        in_field = row_words tables.lettered at.tried left row stands_row;
+        rest = row_rest tables.lettered at.tried left row stands_row;
       }
 
   pub step_holds : at.best ≡ kept p n (best_as n at.best)
   step_holds = kept_own p n at.best (best_after tables.lettered at.tried) (best_long tables.lettered at.tried) stands_best
 
-  pub step_ends : (behind : List ℕ) → behind ≡ eight n (row_behind letters n (take n at.row)) → (held : Kept)
-      → held ≡ kept p n (keep (tried (hadamard_cuts p n) p n) (key_of p n) (best_as n at.best) (take n at.row))
+  pub step_ends : (behind : Option (List ℕ)) → BehindIs letters n (take n row) behind → (held : Option Kept)
+      → held ≡ kept p n (keep (tried (hadamard_cuts p n) p n) (key_of p n) (best_as n at.best) (take n row))
       → as_position tables.lettered behind (at.tried + 1) held ≡ position_at p n letters (suc at.tried)
-  step_ends = next_position tables.lettered at.tried left at.row stands_row at.best stands_best
+  step_ends = next_position tables.lettered at.tried left row stands_row at.best stands_best
 
 -- ---- many steps
 
@@ -228,7 +289,7 @@ module _ {p n : ℕ} {letters counts : List ℕ} (b : Lettered p n letters count
   tried_is : here.tried ≡ min t (length (rows_of letters n))
   tried_is = ap (λ (x : Position). x.tried) is ∙ position_tried b t
 
-  row_is : here.row ≡ eight n (get_or (rows_of letters n) t (replicate n 0))
+  row_is : here.row ≡ next_after n (rows_of letters n) t
   row_is = ap (λ (x : Position). x.row) is ∙ position_row b t
 
   -- it stands after the rows that it has tried
@@ -244,18 +305,9 @@ module _ {p n : ℕ} {letters counts : List ℕ} (b : Lettered p n letters count
       )
 
   -- a next row is there: the rows tried are t
-  pub position_left : (get_or here.row 0 0 ≡ 0 → ⊥) → (t < length (rows_of letters n)) × (here.tried ≡ t)
-  position_left d = elim (dec_lt t (length (rows_of letters n))) [
-    | yes h ↦ (h, let e = tried_is in omega arith)
-    | no h ↦ absurd (d (no_row b t (omega arith) here.row row_is))
-  ]
+  pub position_left : (row : List ℕ) → here.row ≡ Some row → here.tried ≡ t
+  position_left row e = let left = some_left b t row (sym e ∙ row_is) in let same = tried_is in omega arith
 
   -- no next row is there: it does not move
-  pub position_over : get_or here.row 0 0 ≡ 0 → length (rows_of letters n) ≤ t
-  position_over e = elim (dec_lt t (length (rows_of letters n))) [
-    | yes h ↦ absurd (row_nonzero b t h here.row row_is e)
-    | no h ↦ omega arith
-  ]
-
-  pub position_end : (u : ℕ) → t ≤ u → get_or here.row 0 0 ≡ 0 → here ≡ position_at p n letters u
-  position_end u l e = let over = position_over e in is ∙ same_position b t u over (omega arith)
+  pub position_end : (u : ℕ) → t ≤ u → here.row ≡ None → here ≡ position_at p n letters u
+  position_end u l e = let over = none_left b t (sym row_is ∙ e) in is ∙ same_position b t u over (omega arith)

@@ -1,18 +1,27 @@
 -- The ranks of ascending letters: how many are below a number. Assumes nothing.
-use mathlib.Core.Path.{◌≡◌, refl, ap, ◌∙◌}
-use mathlib.Core.Bool.{Bool, true, false, cond}
+use mathlib.Core.Path.{◌≡◌, refl, sym, ap, ap₂, subst, ◌∙◌}
+use mathlib.Core.Bool.{Bool, true, false, cond, not, ◌||◌}
+use mathlib.Core.List.Memᴰ
 use mathlib.Core.List.{List, [], ◌∷◌, Memᴰ}
-use Prim.Native.Nat.{ℕ, zero, suc, ◌+◌, ◌≤◌, ◌<◌, zero-le}
+use mathlib.Core.Logic.{⊎_elim}
+use Prim.Native.Nat.{ℕ, zero, suc, ◌+◌, ◌-◌, ◌≤◌, ◌<◌, zero-le}
 use native.Mathlib.Decide.{dec_lt}
 use native.Mathlib.Omega.{arith}
-use lib.Dec.{ltb}
-use lib.ListN.{length, get_or}
-use borrow.Author.Tests.{ltb-true, ltb-false}
+use lib.Dec.{eqb, ltb}
+use lib.ListN.{length, get_or, take, drop}
+use lib.Seq.{take_all}
+use Rattle.std.proofs.Common.{length-drop}
+use borrow.Author.Tests.{ltb-true, ltb-false, lt-ltb, le-ltb, eq-eqb, eqb-true}
+use Rattle.std.specs.Prelude.{Option, MatchOption}
+use Rattle.std.specs.declared.option.Option.TheVariants.{Some, None}
+use Rattle.std.specs.Option.{unwrap_or}
+use Rattle.std.specs.List.{find, list_any}
 use Rattle.algebra.proofs.Words.{get_d_tabulate}
+use Rattle.algebra.proofs.Symmetry.{same_bool}
 use Rattle.rows.proofs.Rows.{Sorted, end, then, mem_at}
 use Rattle.rows.proofs.Arrangements.{sorted_at}
+use Rattle.rows.specs.Lightest.{member}
 use Rattle.walk.specs.Steps.Successors.{count_below, rank_table, Ascend, Ranked, free_above}
-use Rattle.walk.proofs.Successors.{none_free, least_free, free_above_holds, free_unique}
 
 -- ascending by places, and as a sorted list
 pub ascend_sorted : (l : List ℕ) → Ascend l → Sorted ◌<◌ l
@@ -103,11 +112,6 @@ module _ {l : List ℕ} (s : Sorted ◌<◌ l) (a i : ℕ) (is : i ≡ count_bel
 
 -- ---- the least free letter, looked for from the rank on
 
--- the letters before place i are not above a, or used
-pub record Passed (letters used : List ℕ) (a i : ℕ) : Type 0 where
-  pub above : count_below letters (suc a) ≤ i
-  pub passed : (j : ℕ) → count_below letters (suc a) ≤ j → j < i → Memᴰ (get_or letters j 0) used
-
 module _ {letters ranks : List ℕ} (ranked : Ranked letters ranks) where
   pub letters_sorted : Sorted ◌<◌ letters
   letters_sorted = ascend_sorted letters ranked.ascend
@@ -116,40 +120,59 @@ module _ {letters ranks : List ℕ} (ranked : Ranked letters ranks) where
   unfolding rank_table
   rank_at a h = ap (λ (t : List ℕ). get_or t a 0) ranked.table ∙ get_d_tabulate 256 (λ a. count_below letters (suc a)) a 0 h
 
-  module _ (used : List ℕ) (a : ℕ) where
-    pub passed_start : (i : ℕ) → i ≡ count_below letters (suc a) → Passed letters used a i
-    passed_start i e = record { above = omega arith; passed = λ j h k. absurd (omega arith) }
+  -- it is a place in the list, or its end
+  pub rank_inside : (a : ℕ) → a < 256 → get_or ranks a 0 ≤ length letters
+  rank_inside a h = omega (arith, rank_at a h, below_most (suc a) letters)
 
-    pub passed_turn : (i : ℕ) → Passed letters used a i → Memᴰ (get_or letters i 0) used → Passed letters used a (i + 1)
-    passed_turn i h m =
-        record {
-          above = omega (arith, h.above);
-          passed = λ j k l. elim (dec_lt j i) [ yes g ↦ h.passed j k g | no g ↦ let z : j ≡ i = omega arith in (rw z m) ];
-        }
+-- a test of equality answers alike both ways
+eqb_swapped : (a b : ℕ) → eqb a b ≡ eqb b a
+eqb_swapped a b = same_bool _ _ (λ h. eq-eqb b a (sym (eqb-true a b h))) (λ h. eq-eqb a b (sym (eqb-true b a h)))
 
-    -- a letter above a and before place i is used
-    passed_used : (i : ℕ) → Passed letters used a i → (x : ℕ) → Memᴰ x letters → a < x → ((j : ℕ) → get_or letters j 0 ≡ x → j < length letters → j < i) → Memᴰ x used
-    passed_used i h x m l under =
-        let (j, k, e) = mem_at letters x m in
-        let from : count_below letters (suc a) ≤ j = elim (dec_lt j (count_below letters (suc a))) [
-          | yes g ↦ absurd (let z = below_before (suc a) letters j g in omega arith)
-          | no g ↦ omega arith
-        ] in
-        rw (← e) (h.passed j from (under j e k))
+-- whether a number is among those used, as the library tests it
+used_member : (a : ℕ) (used : List ℕ) → list_any (λ u. eqb u a) used ≡ member a used
+unfolding member
+used_member a [] = refl
+used_member a (u ∷ used) = ap₂ ◌||◌ (eqb_swapped u a) (used_member a used)
 
-    pub passed_all : (i : ℕ) → Passed letters used a i → length letters ≤ i → 0 ≡ free_above letters used a
-    passed_all i h l = free_unique (none_free refl λ x m k. passed_used i h x m k (λ j e g. omega arith)) (free_above_holds used a letters_sorted)
+-- what was found: the least free letter above a, or none where there is none
+abbrev pub FreeIs : List ℕ → List ℕ → ℕ → Option ℕ → Type 0
+FreeIs letters used a found = MatchOption found (free_above letters used a ≡ 0) (λ x. (0 < x) × (x ≡ free_above letters used a))
 
-    pub passed_free : (i : ℕ) → Passed letters used a i → i < length letters → Memᴰ (get_or letters i 0) letters → (Memᴰ (get_or letters i 0) used → ⊥)
-        → get_or letters i 0 ≡ free_above letters used a
-    passed_free i h l m new =
-        free_unique
-        (least_free m (let z = below_behind (suc a) letters_sorted i h.above l in omega arith) new
-        λ x n k less. passed_used i h x n k λ j e g. elim (dec_lt j i) [
-          | yes q ↦ q
-          | no q ↦ elim (dec_lt i j) [
-            | yes w ↦ absurd (let z = sorted_at letters_sorted 0 i j w g in omega arith)
-            | no w ↦ absurd (let z : j ≡ i = omega arith in let y : get_or letters j 0 ≡ get_or letters i 0 = ap (λ (k : ℕ). get_or letters k 0) z in omega arith)
-          ]
-        ])
-        (free_above_holds used a letters_sorted)
+-- 0 for none
+pub free_or_zero : (letters used : List ℕ) (a : ℕ) (found : Option ℕ) → FreeIs letters used a found → unwrap_or found 0 ≡ free_above letters used a
+free_or_zero letters used a None h = sym h
+free_or_zero letters used a (Some x) h = h.1
+
+module _ (used : List ℕ) (a : ℕ) where
+  -- of letters that are all above a
+  found_above : (l : List ℕ) → ((x : ℕ) → Memᴰ x l → a < x) → FreeIs l used a (find (λ x. not (list_any (λ u. eqb u x) used)) l)
+  unfolding free_above
+  found_above [] h = refl
+  found_above (x ∷ l) h =
+      rw (lt-ltb a x (h x (Memᴰ.head refl)), used_member x used) (go (member x used) (found_above l (λ y m. h y (Memᴰ.tail m))))
+    where
+      go : (t : Bool) → FreeIs l used a (find (λ x. not (list_any (λ u. eqb u x) used)) l)
+          → MatchOption (cond (not t) (Some x) (find (λ x. not (list_any (λ u. eqb u x) used)) l)) (cond (not t) x (free_above l used a) ≡ 0) (λ y. (0 < y) × (y ≡ cond (not t) x (free_above l used a)))
+      go true k = k
+      go false k = (let z = h x (Memᴰ.head refl) in omega arith, refl)
+
+  -- of ascending letters, from the first above a on
+  pub found_free : {l : List ℕ} → Sorted ◌<◌ l → FreeIs l used a (find (λ x. not (list_any (λ u. eqb u x) used)) (drop (count_below l (suc a)) l))
+  unfolding free_above count_below
+  found_free end = refl
+  found_free (then {x = x} {xs = l} p s) = go (ltb x (suc a)) refl (found_free s)
+    where
+      go : (t : Bool) → ltb x (suc a) ≡ t → FreeIs l used a (find (λ x. not (list_any (λ u. eqb u x) used)) (drop (count_below l (suc a)) l))
+          → FreeIs (x ∷ l) used a (find (λ x. not (list_any (λ u. eqb u x) used)) (drop (cond t (suc (count_below l (suc a))) 0) (x ∷ l)))
+      go true e k = rw (le-ltb a x (let z = ltb-true x (suc a) e in omega arith)) k
+      go false e k = found_above (x ∷ l) (λ y m. let z = ltb-false x (suc a) e in ⊎_elim (λ (q : y ≡ x). omega arith) (λ i. let w = p y i in omega arith) (Memᴰ.cases_cons m))
+
+-- what is found in the list from the rank on
+pub found_at : {letters ranks : List ℕ} → Ranked letters ranks → (used : List ℕ) (a r : ℕ) → a < 256 → r ≡ get_or ranks a 0
+    → (found : Option ℕ) → found ≡ find (λ x. not (list_any (λ u. eqb u x) used)) (take (length letters - r) (drop r letters)) → FreeIs letters used a found
+found_at {letters = letters} ranked used a r h e found f =
+    subst (FreeIs letters used a)
+    (sym (f ∙ ap (find (λ x. not (list_any (λ u. eqb u x) used)))
+    (take_all (length letters - r) (drop r letters) (omega (arith, length-drop r letters))
+    ∙ ap (λ (k : ℕ). drop k letters) (e ∙ rank_at ranked a h))))
+    (found_free used a (letters_sorted ranked))

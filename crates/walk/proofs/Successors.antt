@@ -47,20 +47,6 @@ free_above_holds used a (then {x = x} {xs = xs} p s) = go (ltb a x) (member x us
     go true true e f rest = rw (e, f) (free_more (λ l. (member_mem x used).0 f) rest)
     go false m e f rest = rw e (free_more (λ l. absurd (omega (arith, ltb-false a x e))) rest)
 
-module _ {letters used : List ℕ} {a v w : ℕ} where
-  -- a free letter is the only one
-  pub free_unique : Free letters used a v → Free letters used a w → v ≡ w
-  free_unique (none_free e f) (none_free d g) = e ∙ sym d
-  free_unique (none_free e f) (least_free m l n g) = absurd (n (f w m l))
-  free_unique (least_free m l n f) (none_free d g) = absurd (n (g v m l))
-  free_unique (least_free m l n f) (least_free i j k g) = elim (dec_lt v w) [
-    | yes h ↦ absurd (n (g v m l h))
-    | no h ↦ elim (dec_lt w v) [
-      | yes q ↦ absurd (k (f w i j q))
-      | no q ↦ omega arith
-    ]
-  ]
-
 -- ---- rows of different letters
 
 -- a row of n different letters
@@ -186,6 +172,15 @@ fill_front letters q (suc k) i h =
     let v = free_above letters q 0 in
     let l = snoc_length q (length q) v refl in
     fill_front letters (q ++ v ∷ []) k i (omega arith) ∙ snoc_front q (length q) v refl i h
+
+-- and it is longer by as many entries as are filled
+pub fill_length : (letters q : List ℕ) (k : ℕ) → length (filled_up letters q k) ≡ length q + k
+unfolding filled_up
+fill_length letters q zero = omega arith
+fill_length letters q (suc k) =
+    let v = free_above letters q 0 in
+    let l = snoc_length q (length q) v refl in
+    let h = fill_length letters (q ++ v ∷ []) k in omega arith
 
 module _ {letters : List ℕ} (ascends : Sorted ◌<◌ letters) (positive : (a : ℕ) → Memᴰ a letters → 0 < a) where
   -- a free letter is there as long as there are more letters than places

@@ -1,15 +1,15 @@
--- The walk over the rows of different candidates of a brief, in the words of document 02, Seven: what the call answers, and what the struct of the
+-- The walk over the rows of different candidates of a brief, in the words of document 02, Seven: what the call answers, and what the result of the
 -- code says. To be believed. Assumes nothing.
-use Rattle.std.specs.Prelude.{cond, ◌&&◌, List, [], ◌∷◌, ◌++◌, ℕ, ◌-◌, replicate}
-use Rattle.refusal.specs.Refusals.{number_of, Fault, fault, Answer, answer, answer_after}
-use Rattle.refusal.specs.declared.Outcome.{Outcome}
-use Rattle.refusal.specs.declared.Outcome.TheVariants.{Value, Refused}
+use Rattle.std.specs.Prelude.{cond, ◌&&◌, List, [], ◌∷◌, ◌++◌, ℕ, ◌-◌, replicate, Option, None, Some, Result}
+use Rattle.refusal.specs.declared.Refusal.{Refusal}
+use Rattle.refusal.specs.Refusals.{Fault, fault, Answer, answer_after, answer_by}
 use Rattle.rows.specs.declared.Family.TheVariants.{Hadamard}
 use Rattle.rows.specs.Lightest.{Best, nothing, found}
 use Rattle.rows.specs.Demands.{count_of_row}
 use Rattle.rows.specs.Walks.{Walked, walk_of, lower_bound}
 use Rattle.search.specs.Answer.{brief_faults, is_none}
-use Rattle.walk.specs.declared.WalkResult.{WalkResult}
+use Rattle.walk.specs.declared.CountedRow.{CountedRow}
+use Rattle.walk.specs.declared.Told.{Told}
 
 -- the faults of a walk that stands so: those of its brief, 3 to 8, as of a search; then 9: it is finished without a row
 unfoldable pub walk_faults : ℕ → ℕ → List ℕ → Walked → List Fault
@@ -52,11 +52,22 @@ walk_answer p n candidates budget =
     let w = walk_of p n candidates budget in
     answer_after no_walk (walk_faults p n candidates w) (walk_found p n candidates w)
 
--- what an outcome, whose value is `finished`, and the numbers beside it say
-abbrev pub says_walked : Outcome → ℕ → ℕ → ℕ → List ℕ → Answer WalkFound
-says_walked (Value v) tried count bound row = answer 0 (record { finished = v; tried = tried; count = count; bound = bound; row = row })
-says_walked (Refused r) tried count bound row = answer (number_of r) (record { finished = 0; tried = tried; count = count; bound = bound; row = row })
+-- ---- what the code returns
+
+-- the count of the best row, or 999999 if there is none yet
+abbrev pub told_count : Option CountedRow → ℕ
+told_count None = 999999
+told_count (Some r) = r.count
+
+-- the best row, or zeros
+abbrev pub told_row : Option CountedRow → List ℕ
+told_row None = replicate 8 0
+told_row (Some r) = r.row
+
+-- what is told in numbers
+abbrev pub walk_told : Told → WalkFound
+walk_told t = record { finished = cond t.finished 1 0; tried = t.tried; count = told_count t.best; bound = t.bound; row = told_row t.best }
 
 -- the answer of a walk
-abbrev pub says_walk : WalkResult → Answer WalkFound
-says_walk w = says_walked w.outcome w.tried w.count w.bound w.row
+abbrev pub says_walk : Result Told Refusal → Answer WalkFound
+says_walk = answer_by walk_told no_walk

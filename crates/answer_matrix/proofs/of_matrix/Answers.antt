@@ -1,35 +1,18 @@
--- `answer_matrix::of_matrix` meets its contract: what the polynomial is refused for, the request is. Assumes nothing.
-use mathlib.Core.List.{[]}
-use Rattle.refusal.proofs.Faults.{outcome_refused}
-use Rattle.field.specs.Polynomial.{Modulus}
-use Rattle.field.specs.Faults.{polynomial_faults}
-use Rattle.field.proofs.Calls.{degree_modulus, modulus_fits}
-use Rattle.reply.specs.Due.{check_faults, due_to}
-use Rattle.answer_matrix.specs.Steps.Asked.{matrix_kind}
+-- `answer_matrix::of_matrix` meets its contract: what is due to a matrix that is read, or the refusal. Assumes nothing.
 use Rattle.reply.proofs.Replies.{replied_as}
-use borrow.Author.Rules.{rules}
+use Rattle.answer_matrix.specs.declared.Asked.TheVariants.{Check, Gates}
+use Rattle.answer_matrix.proofs.Requests.{matrix_refused, matrix_due}
 use Rattle.answer_matrix.proofs.of_matrix.Goals as goal
-use Rattle.answer_matrix.proofs.of_matrix.Goals.{In-Value}
 
-pub enum_told-1 : goal.enum_told-1
-enum_told-1 c = search rules
+pub returns-in-Err : goal.returns-in-Err
+returns-in-Err c = replied_as (matrix_refused c.args.asked _ _ _ _ c.in-Err.ensures) c.refuse.ensures
 
--- the polynomial passes where its degree is told
-modulus : (c : In-Value) → Modulus c.args.p
-modulus c =
-    degree_modulus _ c.args.p _ c.checked_degree.ensures c.in-Value.is
+pub returns-in-Check : goal.returns-in-Check
+returns-in-Check c =
+    let h = c.in-Ok.ensures in
+    rw c.in-Check.is (replied_as (matrix_due Check _ _ _ c.in-Ok.matrix h.0 h.1 h.2 h.3) c.put_check.ensures)
 
-pub overflow_cast-p : goal.overflow_cast-p
-overflow_cast-p c = record { fits = modulus_fits (modulus (goal.at.overflow_cast-p c).In-Value) }
-
-pub matrix_over-requires : goal.matrix_over-requires
-matrix_over-requires c = modulus (goal.at.matrix_over-requires c).In-Value
-
-pub returns-in-Refused : goal.returns-in-Refused
-unfolding due_to matrix_kind check_faults
-returns-in-Refused c =
-    replied_as (outcome_refused _ (polynomial_faults c.args.p) _ c.checked_degree.ensures [] _ _ _ c.in-Refused.is)
-    c.refuse.ensures
-
-pub returns-in-Value : goal.returns-in-Value
-returns-in-Value c = c.matrix_over.ensures
+pub returns-in-Gates : goal.returns-in-Gates
+returns-in-Gates c =
+    let h = c.in-Ok.ensures in
+    rw c.in-Gates.is (replied_as (matrix_due Gates _ _ _ c.in-Ok.matrix h.0 h.1 h.2 h.3) c.put_gate_list.ensures)

@@ -1,49 +1,38 @@
--- `answer_matrix::put_check` meets its contract: what is found of the matrix that was read is what is found of the values. Assumes nothing.
-use mathlib.Core.Path.{◌≡◌, sym, ap, ◌∙◌}
+-- `answer_matrix::put_check` meets its contract: the line holds what is found. Assumes nothing.
+use mathlib.Core.Path.{◌≡◌, sym, ap, ap₂, ◌∙◌, subst}
 use mathlib.Core.List.{List, [], ◌∷◌}
-use Prim.Native.Nat.{ℕ, ◌+◌, ◌*◌, ◌<◌}
-use native.Mathlib.Nat.{lt_of_lt_of_le}
+use Prim.Native.Nat.{ℕ}
+use lib.Dec.{lit<}
 use Rattle.refusal.specs.Refusals.{answer}
-use Rattle.field.proofs.Calls.{elements_most}
 use Rattle.lines.specs.Numbers.{entry, InField}
-use Rattle.lines.proofs.Filled.{entry_of}
-use Rattle.checks.specs.Answers.{check_of, check_found}
-use Rattle.text.specs.Reading.{value_at}
+use Rattle.checks.specs.Answers.{yes_no, check_of}
+use Rattle.text.specs.Text.{SixDigits}
 use Rattle.reply.specs.Due.{check_lines}
-use Rattle.reply.proofs.Replies.{replied_as}
-use Rattle.reply.proofs.Values.{check_cong, six_check}
+use Rattle.reply.proofs.Replies.{replied_as, six_in_one}
+use Rattle.reply.proofs.Values.{six_check}
 use borrow.Author.Rules.{rules}
 use Rattle.answer_matrix.proofs.put_check.Goals as goal
-use Rattle.answer_matrix.proofs.put_check.Goals.{After-check-found, After-matrix_of-m}
+use Rattle.answer_matrix.proofs.put_check.Goals.{After-from-involution}
 
-pub matrix_of-m-requires : goal.matrix_of-m-requires
-matrix_of-m-requires c =
-    (c.requires.2, λ i j l m. lt_of_lt_of_le (c.requires.3 i j l m) (elements_most c.args.p c.requires.0))
-
--- the values as a matrix
-abbrev values : After-matrix_of-m → ℕ → ℕ → ℕ
-values c i j = value_at c.args.part.now (i * c.args.n + j)
-
--- the matrix that was read has them as entries
-read : (c : After-matrix_of-m) (i j : ℕ) → i < c.args.n → j < c.args.n → entry c.matrix_of-m.result i j ≡ values c i j
-read c i j l m = entry_of _ _ (values c) _ c.matrix_of-m.ensures i j l m
-
-pub check-found-requires : goal.check-found-requires
-unfolding InField
-check-found-requires c =
-    (c.requires.0, c.requires.1, c.requires.2, λ i j l m. rw (read (goal.at.check-found-requires c).After-matrix_of-m i j l m) (c.requires.3 i j l m))
-
--- the numbers of the line
-found : (c : After-check-found) → check_found c.check-found.result ≡ check_of c.args.p c.args.n (values (goal.at.After-check-found c).After-matrix_of-m)
+-- the line
+found : (c : After-from-involution)
+    → let r = c.check-found.result in
+    let m = c.args.matrix in
+    0 ∷ r.branch ∷ c.from-mds.result ∷ c.from-involution.result ∷ r.count ∷ [] ≡ 0 ∷ check_of m.field.polynomial m.order (entry m.entries)
 found c =
-    c.check-found.ensures ∙ check_cong c.args.p c.args.n (entry c.matrix_of-m.result) (values (goal.at.After-check-found c).After-matrix_of-m) (read (goal.at.After-check-found c).After-matrix_of-m)
+    let r = c.check-found.result in
+    let mds : c.from-mds.result ≡ yes_no r.mds = search rules in
+    let involution : c.from-involution.result ≡ yes_no r.involution = search rules in
+    ap₂ (λ (a b : ℕ). 0 ∷ r.branch ∷ a ∷ b ∷ r.count ∷ []) mds involution ∙ ap (λ (l : List ℕ). 0 ∷ l) c.check-found.ensures
 
 pub put_answer-requires : goal.put_answer-requires
+unfolding InField
 put_answer-requires c =
-    let six = six_check c.args.p c.args.n (values (goal.at.put_answer-requires c).After-matrix_of-m) c.requires.0 c.requires.1 c.requires.2 c.requires.3 in
-    (search rules, rw (sym (found (goal.at.put_answer-requires c).After-check-found)) at six)
+    let m = c.args.matrix in
+    let six = six_check m.field.polynomial m.order (entry m.entries) m.field.modulus m.low m.high m.inside in
+    (lit< tt, six_in_one _ (subst SixDigits (sym (found (goal.at.put_answer-requires c).After-from-involution)) six))
 
 pub returns : goal.returns
 unfolding check_lines
 returns c =
-    replied_as (ap (λ (l : List ℕ). answer 0 ((0 ∷ l) ∷ [])) (found (goal.at.returns c).After-check-found)) c.put_answer.ensures
+    replied_as (ap (λ (l : List ℕ). answer 0 (l ∷ [])) (found (goal.at.returns c).After-from-involution)) c.put_answer.ensures

@@ -1,23 +1,18 @@
--- `answer_row::read_values` meets its contract. The loop's invariant: the values before number i are stored. Assumes nothing.
-use mathlib.Core.Path.{◌≡◌, refl}
+-- `answer_row::read_values` meets its contract. Assumes nothing.
+use mathlib.Core.Path.{ap, ◌∙◌}
 use native.Mathlib.Omega.{arith}
-use Rattle.text.specs.Reading.{values_from}
-use Rattle.answer_row.proofs.Found.{values_stored}
-use borrow.Author.Rules.{rules}
+use lib.Dec.{lit<}
+use lib.ListN.{length}
+use Rattle.text.proofs.Lengths.{length_values_from}
+use Rattle.answer_row.proofs.Found.{values_stored, values_none}
 use Rattle.answer_row.proofs.read_values.Goals as goal
 
 pub loop-i-init : goal.loop-i-init
-unfolding values_from
-loop-i-init c = (search rules, refl)
+loop-i-init c = c.new-values.ensures ∙ values_none c.args.part.now
+
+pub push-requires : goal.push-requires
+push-requires c = (lit< tt, omega (arith, ap length c.loop-i.invariant, length_values_from c.args.part.now 0 c.loop-i.i))
 
 pub loop-i-preserved : goal.loop-i-preserved
 loop-i-preserved c =
-    let a = c.args in
-    let loop = c.loop-i in
-    (search rules, values_stored a.part.now loop.i loop.values _ (search rules) loop.invariant.1 c.value_at.ensures)
-
-pub returns : goal.returns
-returns c =
-    let a = c.args in
-    let all : c.loop-i.i ≡ a.count = omega arith in
-    rw all at c.loop-i.invariant.1
+    c.push.ensures.items ∙ values_stored c.args.part.now c.loop-i.i c.loop-i.values.items c.value_at.result c.loop-i.invariant c.value_at.ensures

@@ -5,7 +5,4 @@ use Rattle.answer_survey.proofs.put_polynomial.Goals as goal
 
 pub put_line-requires : goal.put_line-requires
 put_line-requires c =
-    (search rules, rw c.sums_of-found.ensures (six_survey c.args.p c.requires.0))
-
-pub returns : goal.returns
-returns c = rw c.sums_of-found.ensures at c.put_line.ensures
+    (search rules, rw (c.from.ensures, c.sums_of-sums.ensures) (six_survey c.args.field.polynomial c.args.field.modulus))

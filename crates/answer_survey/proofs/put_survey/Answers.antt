@@ -8,7 +8,7 @@ use lib.ListN.{length}
 use Rattle.text.specs.Text.{line_text, answer_text}
 use Rattle.text.proofs.Form.{six_none, six_more}
 use Rattle.text.proofs.Lengths.{length_line}
-use Rattle.text.proofs.Places.{put_join, put_long}
+use Rattle.text.proofs.Places.{wrote_join, put_long}
 use Rattle.reply.specs.Due.{survey_lines}
 use Rattle.answer_survey.specs.Steps.TableLines.{lines_from}
 use Rattle.answer_survey.proofs.Surveys.{starts_rise, start_most, survey_text, survey_length}
@@ -50,24 +50,26 @@ pub overflow_add-count : goal.overflow_add-count
 overflow_add-count c = omega (arith, high (goal.at.overflow_add-count c).After-start_of-last)
 
 pub returns-then-space-count : goal.returns-then-space-count
-returns-then-space-count c = lines_short (survey_lines c.args.m) _ c.too_short.ensures (omega (arith, size (goal.at.returns-then-space-count c).After-start_of-last))
+returns-then-space-count c = lines_short (survey_lines c.args.m) _ (omega (arith, size (goal.at.returns-then-space-count c).After-start_of-last))
 
 pub overflow_cast-count : goal.overflow_cast-count
 overflow_cast-count c = omega (arith, high (goal.at.overflow_cast-count c).After-start_of-last)
 
-pub put_line-next-requires : goal.put_line-next-requires
-put_line-next-requires c =
-    (omega (arith, low (goal.at.put_line-next-requires c).After-start_of-last), six_more _ (search rules) (six_more _ (omega (arith, high (goal.at.put_line-next-requires c).After-start_of-last)) six_none))
+pub put_line-requires : goal.put_line-requires
+put_line-requires c =
+    (omega (arith, low (goal.at.put_line-requires c).After-start_of-last), six_more _ (search rules) (six_more _ (omega (arith, high (goal.at.put_line-requires c).After-start_of-last)) six_none))
 
-pub put_polynomials-end-requires : goal.put_polynomials-end-requires
-put_polynomials-end-requires c =
+pub put_polynomials-requires : goal.put_polynomials-requires
+put_polynomials-requires c =
     let first : List ℕ = 0 ∷ (c.start_of-last.result - c.start_of-first.result) ∷ [] in (
-      low (goal.at.put_polynomials-end-requires c).After-start_of-last,
-      high (goal.at.put_polynomials-end-requires c).After-start_of-last,
-      omega (arith, c.put_line-next.ensures.place, length_line first, put_long (line_text first) c.put_line-next.ensures),
+      low (goal.at.put_polynomials-requires c).After-start_of-last,
+      high (goal.at.put_polynomials-requires c).After-start_of-last,
+      omega (arith, c.put_line.ensures.put.place, length_line first, put_long (line_text first) c.put_line.ensures.put),
     )
 
 pub returns : goal.returns
 returns c =
-    lines_written (survey_lines c.args.m) (omega (arith, size (goal.at.returns c).After-start_of-last))
-    (rw (whole (goal.at.returns c).After-start_of-last) (put_join _ _ c.put_line-next.ensures c.put_polynomials-end.ensures))
+    let wrote = wrote_join _ _ c.put_line.ensures c.put_polynomials.ensures in
+    let replied =
+    lines_written (survey_lines c.args.m) (omega (arith, size (goal.at.returns c).After-start_of-last)) (rw (← whole (goal.at.returns c).After-start_of-last) at wrote.put) in
+    search rules

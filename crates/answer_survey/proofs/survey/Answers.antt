@@ -8,7 +8,7 @@ use Rattle.refusal.specs.declared.Refusal.TheVariants.{PolynomialRange, OrderRan
 use Rattle.refusal.proofs.Faults.{after_taken, after_left, after_empty}
 use Rattle.reply.specs.Due.{survey_faults, survey, due_to}
 use Rattle.reply.proofs.Replies.{replied_as}
-use Rattle.reply.proofs.Values.{degree_passed, count_wrong, count_right}
+use Rattle.reply.proofs.Values.{count_wrong, count_right}
 use Rattle.answer_survey.proofs.survey.Goals as goal
 use Rattle.answer_survey.proofs.survey.Goals.{Else-order-ne0, Else-wrong_degree}
 
@@ -41,9 +41,6 @@ returns-then-count-ne0 c =
     ∙ after_left [] _ 5 _ _ (order (goal.at.returns-then-count-ne0 c).Else-order-ne0)
     ∙ after_left [] _ 3 _ _ (degree (goal.at.returns-then-count-ne0 c).Else-wrong_degree))
     c.refuse-then-count-ne0.ensures
-
-pub put_survey-requires : goal.put_survey-requires
-put_survey-requires c = degree_passed _ (degree (goal.at.put_survey-requires c).Else-wrong_degree)
 
 pub returns : goal.returns
 unfolding due_to survey survey_faults

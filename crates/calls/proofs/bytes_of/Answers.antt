@@ -1,28 +1,19 @@
--- `calls::bytes_of` meets its contract. The loop's invariant: the bytes before place i are stored. Assumes nothing.
-use mathlib.Core.Path.{◌≡◌, refl, ◌∙◌}
-use native.Mathlib.Omega.{arith}
-use lib.ListN.{length}
-use Rattle.calls.proofs.Stored.{stored_next, stored_full, length_bytes, byte_at}
-use borrow.Author.Rules.{rules}
+use Rattle.std.proofs.Common.{rules, ◌≡◌, arith, refl, sym, ap, ◌∙◌}
+use Rattle.std.proofs.lemmas.Slice.{overwrites}
+use lib.Seq.{take_all}
+use Rattle.calls.specs.Records.{as_bytes}
+use Rattle.calls.proofs.Stored.{bytes_more}
 use Rattle.calls.proofs.bytes_of.Goals as goal
 
 pub loop-i-init : goal.loop-i-init
-loop-i-init c = (search rules, refl)
+unfolding as_bytes
+loop-i-init c = (refl, refl)
 
 pub loop-i-preserved : goal.loop-i-preserved
 loop-i-preserved c =
-    let loop = c.loop-i in
-    let reply = c.args.reply in
-    let many : length reply ≡ 13 = search rules in
-    let size = length_bytes reply in (
-      search rules,
-      stored_next _ 52 loop.bytes loop.i loop.invariant.1 _ (omega arith) (omega arith) (c.byte_of.ensures ∙ byte_at reply loop.i (omega arith)),
-    )
+    (search (rules, overwrites), bytes_more c.args.reply c.loop-i.bytes _ c.loop-i.i _ (search rules) c.loop-i.invariant.1 (search rules) (search rules))
 
 pub returns : goal.returns
 returns c =
-    let loop = c.loop-i in
-    let reply = c.args.reply in
-    let many : length reply ≡ 13 = search rules in
-    let size = length_bytes reply in
-    stored_full _ 52 loop.bytes loop.i loop.invariant.1 (omega arith) (omega arith)
+    let all : c.loop-i.i ≡ 13 = omega arith in
+    sym (take_all 52 c.loop-i.bytes (omega (arith, c.loop-i.invariant.0))) ∙ rw all at c.loop-i.invariant.1 ∙ ap as_bytes (take_all 13 c.args.reply (search rules))

@@ -9,13 +9,13 @@ use Rattle.calls.proofs.Stored.{at_most_all}
 use Rattle.calls.proofs.Numbered.{same_reply}
 use borrow.Author.Rules.{rules}
 use Rattle.calls.proofs.reply_of.Goals as goal
-use Rattle.calls.proofs.reply_of.Goals.{After-budget_of-budget, After-widened-values}
+use Rattle.calls.proofs.reply_of.Goals.{After-min-count, After-widened-values}
 
 pub slice_bounds-values-end : goal.slice_bounds-values-end
 slice_bounds-values-end c = search rules
 
 pub slice_bounds-reply_to-end : goal.slice_bounds-reply_to-end
-slice_bounds-reply_to-end c = sym (length-take-le _ _ (slice_bounds-values-end (goal.at.slice_bounds-reply_to-end c).After-budget_of-budget))
+slice_bounds-reply_to-end c = sym (length-take-le _ _ (slice_bounds-values-end (goal.at.slice_bounds-reply_to-end c).After-min-count))
 
 size : (c : After-widened-values) → length c.widened-values.result ≡ 256
 size c = search rules
@@ -25,13 +25,13 @@ unfolding reply_of call_in polynomial_in first_in second_in input_in candidates_
 returns c =
     c.reply_to.ensures
     ∙ same_reply
-    c.number_at-call.ensures
-    c.number_at-p.ensures
-    c.number_at-a.ensures
-    c.number_at-b.ensures
-    c.matrix_of-m.ensures
-    c.words_at-x.ensures
-    (ap (λ (n : ℕ). take n c.widened-values.result) c.at_most-count.ensures
-    ∙ at_most_all c.widened-values.result c.number_at-b.result (size (goal.at.returns c).After-widened-values)
-    ∙ ap₂ take c.number_at-b.ensures c.widened-values.ensures)
-    c.budget_of-budget.ensures
+    c.number_at.ensures
+    c.number_at-2.ensures
+    c.number_at-3.ensures
+    c.number_at-4.ensures
+    c.matrix_of.ensures
+    c.words_at.ensures
+    (ap (λ (n : ℕ). take n c.widened-values.result) c.min-count.ensures
+    ∙ at_most_all c.widened-values.result c.number_at-4.result (size (goal.at.returns c).After-widened-values)
+    ∙ ap₂ take c.number_at-4.ensures c.widened-values.ensures)
+    c.budget_of.ensures

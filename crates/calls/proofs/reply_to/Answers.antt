@@ -11,7 +11,7 @@ use Rattle.calls.proofs.reply_to.Goals.{Start}
 
 -- the replies of all calls
 abbrev listed : Start → List (List ℕ)
-listed s = replies s.args.p s.args.a s.args.b s.args.m s.args.x s.args.candidates.now s.args.budget
+listed s = replies s.args.call.p s.args.call.a s.args.call.b s.args.call.m s.args.call.x s.args.candidates.now s.args.call.budget
 
 pub returns-in-11 : goal.returns-in-11
 unfolding reply_to replies value_answers
@@ -35,13 +35,13 @@ pub returns-in-14 : goal.returns-in-14
 unfolding reply_to replies value_answers
 returns-in-14 c =
     at_number (listed (goal.at.returns-in-14 c).Start) (value_reply no_answer) c.in-14.is
-    (c.search_reply.ensures ∙ ap search_reply c.search.ensures)
+    (c.search_reply.ensures ∙ ap search_reply c.search_for.ensures)
 
 pub returns-in-15 : goal.returns-in-15
 unfolding reply_to replies value_answers
 returns-in-15 c =
     at_number (listed (goal.at.returns-in-15 c).Start) (value_reply no_answer) c.in-15.is
-    (c.search_reply-in-15.ensures ∙ ap search_reply c.search_circulant.ensures)
+    (c.search_reply-in-15.ensures ∙ ap search_reply c.search_for-in-15.ensures)
 
 pub returns-in-16 : goal.returns-in-16
 unfolding reply_to replies value_answers
@@ -65,5 +65,5 @@ returns-in_default c =
     let other = c.in_default.in_default-own.rest in
     c.value_reply.ensures
     ∙ ap value_reply c.value_call.ensures
-    ∙ values_kept (value_answers c.args.p c.args.a c.args.b c.args.m c.args.x) (drop 11 (listed (goal.at.returns-in_default c).Start)) c.args.call
-    (none_of c.args.call other.0.0.0.0.0.1 other.0.0.0.0.1 other.0.0.0.1 other.0.0.1 other.0.1 other.1)
+    ∙ values_kept (value_answers c.args.call.p c.args.call.a c.args.call.b c.args.call.m c.args.call.x) (drop 11 (listed (goal.at.returns-in_default c).Start)) c.args.call.number
+    (none_of c.args.call.number other.0.0.0.0.0.1 other.0.0.0.0.1 other.0.0.0.1 other.0.0.1 other.0.1 other.1)

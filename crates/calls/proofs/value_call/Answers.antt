@@ -10,7 +10,7 @@ use Rattle.calls.proofs.value_call.Goals.{Start}
 
 -- the answers of all calls
 abbrev listed : Start → List (Answer ℕ)
-listed s = value_answers s.args.p s.args.a s.args.b s.args.m s.args.x
+listed s = value_answers s.args.call.p s.args.call.a s.args.call.b s.args.call.m s.args.call.x
 
 pub returns-in-1 : goal.returns-in-1
 unfolding value_answers
@@ -55,7 +55,7 @@ returns-in-10 c = at_number (listed (goal.at.returns-in-10 c).Start) no_answer c
 pub returns-in_default : goal.returns-in_default
 unfolding value_answers
 returns-in_default c =
-    let call = c.args.call in
+    let call = c.args.call.number in
     let six = c.in_default.in_default-own.rest in
     let one = six.0.0.0.0.0 in
     unnumbered (listed (goal.at.returns-in_default c).Start) no_answer call refl

@@ -12,7 +12,7 @@ unfolding InField
 overflow_cast-result c =
     let a = c.args in
     let w = c.requires in
-    record { fits = omega (arith, c.branch_number_of-branch.ensures, branch_most a.p w.0 a.n _ w.3 w.1, w.2) }
+    record { fits = omega (arith, c.branch_number_of-branch.ensures, branch_most a.field.polynomial a.field.modulus a.n _ w.2 w.0, w.1) }
 
 pub returns : goal.returns
 unfolding check_of is_mds

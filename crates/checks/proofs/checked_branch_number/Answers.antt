@@ -1,34 +1,22 @@
 -- `checks::checked_branch_number` meets its contract: the branch number is at most 9. Assumes nothing.
+use mathlib.Core.Path.{ap, ◌∙◌}
+use Prim.Native.Nat.{ℕ}
 use native.Mathlib.Omega.{arith}
-use Rattle.field.proofs.Calls.{modulus_fits}
-use Rattle.lines.specs.Numbers.{InField}
+use Rattle.algebra.specs.Matrix.{branch_number}
+use Rattle.lines.specs.Numbers.{numbers, elements, entry, InField}
 use Rattle.matrix.proofs.Theorems.{branch_most}
-use Rattle.checks.proofs.CallFaults.{Sound, matrix_sound, call_refused, call_accepted}
-use borrow.Author.Rules.{rules}
+use Rattle.checks.proofs.CallFaults.{call_returned, call_accepted}
 use Rattle.checks.proofs.checked_branch_number.Goals as goal
-use Rattle.checks.proofs.checked_branch_number.Goals.{In-Value}
 
-pub enum_told-1 : goal.enum_told-1
-enum_told-1 c = search rules
-
--- nothing is refused
-sound : (c : In-Value) → let a = c.args in Sound a.p a.n a.m
-sound c = matrix_sound _ _ _ _ _ c.matrix_fault.ensures c.in-Value.is
-
-pub overflow_cast-p : goal.overflow_cast-p
-overflow_cast-p c = record { fits = modulus_fits (sound (goal.at.overflow_cast-p c).In-Value).modulus }
-
-pub branch_number_of-requires : goal.branch_number_of-requires
-branch_number_of-requires c = let w = sound (goal.at.branch_number_of-requires c).In-Value in (w.modulus, w.low, w.high, w.values)
+pub returns-in_err-field : goal.returns-in_err-field
+returns-in_err-field c =
+    call_returned _ 0 _ _ _ _ c.from_residual.ensures.1 c.in_err-field.ensures
 
 pub overflow_cast-result : goal.overflow_cast-result
 unfolding InField
 overflow_cast-result c =
-    let w = sound (goal.at.overflow_cast-result c).In-Value in
-    record { fits = omega (arith, c.branch_number_of.ensures, branch_most _ w.modulus _ _ w.values w.low, w.high) }
+    let w = c.in_ok-field.ensures in
+    record { fits = omega (arith, c.branch_number_of.ensures, branch_most _ c.in_ok-field.field.modulus _ _ w.3 w.1, w.2) }
 
-pub returns-in-Refused : goal.returns-in-Refused
-returns-in-Refused c = call_refused _ _ c.matrix_fault.ensures _ _ _ c.in-Refused.is
-
-pub returns-in-Value : goal.returns-in-Value
-returns-in-Value c = call_accepted _ _ c.matrix_fault.ensures _ _ c.in-Value.is c.branch_number_of.ensures
+pub returns : goal.returns
+returns c = call_accepted 0 _ c.in_ok-field.ensures.4 (c.branch_number_of.ensures ∙ ap (λ (q : ℕ). branch_number (numbers q) (elements q) c.args.n (entry c.args.m)) c.in_ok-field.ensures.0)

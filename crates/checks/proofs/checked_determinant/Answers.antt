@@ -1,35 +1,38 @@
 -- `checks::checked_determinant` meets its contract: sizes 0 to 8. Assumes nothing.
-use mathlib.Core.Path.{refl}
+use mathlib.Core.Path.{sym, ap, ◌∙◌}
+use Prim.Native.Nat.{ℕ, ◌≤◌}
 use borrow.Author.Tests.{ltb-false}
-use lib.Dec.{ltb}
-use Rattle.field.proofs.Calls.{modulus_fits}
-use Rattle.lines.specs.Numbers.{entry}
+use Rattle.algebra.specs.Matrix.{det}
+use Rattle.lines.specs.Numbers.{numbers, entry}
 use Rattle.checks.specs.Answers.{some_entry_too_large, determinant_faults}
-use Rattle.checks.proofs.CallFaults.{Outcome-after, same_faults, accepted, matrix_alone, entries_pass, call_refused, call_accepted}
-use borrow.Author.Rules.{rules}
+use Rattle.checks.proofs.CallFaults.{entries_pass, call_returned, value_refused, value_yielded}
 use Rattle.checks.proofs.checked_determinant.Goals as goal
-use Rattle.checks.proofs.checked_determinant.Goals.{After-first_fault}
+use Rattle.checks.proofs.checked_determinant.Goals.{In_ok-field}
 
-pub enum_told-1 : goal.enum_told-1
-enum_told-1 c = search rules
+pub returns-in_err-field : goal.returns-in_err-field
+unfolding determinant_faults
+returns-in_err-field c =
+    call_returned _ 0 _ _ _ _ c.from_residual.ensures.1 (c.in_err-field.ensures _)
 
--- the order and the values are judged as they are defined
-fault : (c : After-first_fault)
-    → let a = c.args in Outcome-after c.first_fault.result a.p (ltb 8 a.n) (some_entry_too_large a.p a.n (entry a.m))
-fault c = same_faults _ _ _ _ _ c.first_fault.ensures refl (matrix_alone _ _ _)
+most : (c : In_ok-field) → c.args.n ≤ 8
+most c = ltb-false 8 _ c.in_ok-field.ensures.1
 
-pub overflow_cast-p : goal.overflow_cast-p
-overflow_cast-p c = record { fits = modulus_fits (accepted _ _ _ _ _ (fault (goal.at.overflow_cast-p c).After-first_fault) c.in-Value.is).modulus }
+pub entry_too_large-requires : goal.entry_too_large-requires
+entry_too_large-requires c = most (goal.at.entry_too_large-requires c).In_ok-field
+
+pub returns-then-entry_too_large : goal.returns-then-entry_too_large
+unfolding determinant_faults
+returns-then-entry_too_large c =
+    value_refused 0 c.in_ok-field.field.modulus c.in_ok-field.ensures.0 c.in_ok-field.ensures.1 (λ q. some_entry_too_large q c.args.n (entry c.args.m)) _
+    (sym c.entry_too_large.ensures ∙ c.if-entry_too_large.true)
 
 pub determinant_of-requires : goal.determinant_of-requires
 determinant_of-requires c =
-    let a = accepted _ _ _ _ _ (fault (goal.at.determinant_of-requires c).After-first_fault) c.in-Value.is in
-    (a.modulus, ltb-false 8 _ a.order, entries_pass _ _ _ a.values)
+    (most (goal.at.determinant_of-requires c).In_ok-field, entries_pass _ _ _ (sym c.entry_too_large.ensures ∙ c.if-entry_too_large.false))
 
-pub returns-in-Refused : goal.returns-in-Refused
+pub returns : goal.returns
 unfolding determinant_faults
-returns-in-Refused c = call_refused _ _ (fault (goal.at.returns-in-Refused c).After-first_fault) _ _ _ c.in-Refused.is
-
-pub returns-in-Value : goal.returns-in-Value
-unfolding determinant_faults
-returns-in-Value c = call_accepted _ _ (fault (goal.at.returns-in-Value c).After-first_fault) _ _ c.in-Value.is c.determinant_of.ensures
+returns c =
+    value_yielded 0 c.in_ok-field.field.modulus c.in_ok-field.ensures.0 c.in_ok-field.ensures.1 (λ q. some_entry_too_large q c.args.n (entry c.args.m))
+    (sym c.entry_too_large.ensures ∙ c.if-entry_too_large.false)
+    (c.from.ensures ∙ c.determinant_of.ensures ∙ ap (λ (q : ℕ). det (numbers q) c.args.n (entry c.args.m)) c.in_ok-field.ensures.0)

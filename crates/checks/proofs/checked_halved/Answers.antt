@@ -1,36 +1,59 @@
 -- `checks::checked_halved` meets its contract. Assumes nothing.
-use mathlib.Core.Path.{◌∙◌}
-use mathlib.Core.Bool.{◌||◌}
-use Rattle.refusal.proofs.Tests.{or_none}
-use Rattle.field.proofs.Calls.{modulus_fits}
+use mathlib.Core.Path.{◌≡◌, sym, ap, ◌∙◌}
+use mathlib.Core.Bool.{Bool, false, ◌||◌, or-true}
+use mathlib.Core.List.{◌++◌}
+use Prim.Native.Nat.{ℕ, ◌-◌, ◌≤◌}
+use lib.ListN.{replicate}
+use Rattle.algebra.specs.Matrix.{apply, hadamard}
+use Rattle.lines.specs.Numbers.{numbers}
 use Rattle.checks.specs.Answers.{is_wrong_halved_order, some_word_too_large, halved_faults}
-use Rattle.checks.proofs.CallFaults.{Outcome-after, same_faults, accepted, row_input, halved_order_passes, halving_most, words_pass, call_refused, call_accepted}
-use borrow.Author.Rules.{rules}
+use Rattle.checks.proofs.CallFaults.{halved_order_passes, halving_most, words_pass, call_returned, value_refused, value_yielded, neither}
 use Rattle.checks.proofs.checked_halved.Goals as goal
-use Rattle.checks.proofs.checked_halved.Goals.{After-first_fault}
+use Rattle.checks.proofs.checked_halved.Goals.{In_ok-field}
+use Rattle.checks.proofs.checked_halved.Goals.{then-word_too_large-via-then-word_too_large, then-word_too_large-via-else-word_too_large+then-word_too_large-2}
 
-pub enum_told-1 : goal.enum_told-1
-enum_told-1 c = search rules
-
--- the order and the values are judged as they are defined
-fault : (c : After-first_fault)
-    → let a = c.args in Outcome-after c.first_fault.result a.p (is_wrong_halved_order a.n) (some_word_too_large a.p a.n a.row || some_word_too_large a.p a.n a.x)
-unfolding is_wrong_halved_order
-fault c = same_faults _ _ _ _ _ c.first_fault.ensures (halving_most c.args.n) (row_input _ _ _ _)
-
-pub overflow_cast-p : goal.overflow_cast-p
-overflow_cast-p c = record { fits = modulus_fits (accepted _ _ _ _ _ (fault (goal.at.overflow_cast-p c).After-first_fault) c.in-Value.is).modulus }
-
-pub halved-words-requires : goal.halved-words-requires
-halved-words-requires c =
-    let a = accepted _ _ _ _ _ (fault (goal.at.halved-words-requires c).After-first_fault) c.in-Value.is in
-    let (row, words) = or_none _ _ a.values in
-    (a.modulus, halved_order_passes _ a.order, words_pass _ _ _ row, words_pass _ _ _ words)
-
-pub returns-in-Refused : goal.returns-in-Refused
+pub returns-in_err-field : goal.returns-in_err-field
 unfolding halved_faults
-returns-in-Refused c = c.no_words.ensures ∙ call_refused _ _ (fault (goal.at.returns-in-Refused c).After-first_fault) _ _ _ c.in-Refused.is
+returns-in_err-field c =
+    rw (sym c.is_wrong_halved_order.ensures) (call_returned _ (replicate 8 0) _ _ _ _ c.from_residual.ensures.1 (c.in_err-field.ensures _))
 
-pub returns-in-Value : goal.returns-in-Value
+order : (c : In_ok-field) → is_wrong_halved_order c.args.n ≡ false
+order c = sym c.is_wrong_halved_order.ensures ∙ c.in_ok-field.ensures.1
+
+most : (c : In_ok-field) → c.args.n ≤ 8
+most c = halving_most (halved_order_passes _ (order c))
+
+pub word_too_large-requires : goal.word_too_large-requires
+word_too_large-requires c = most (goal.at.word_too_large-requires c).In_ok-field
+
+pub word_too_large-requires-else-word_too_large : goal.word_too_large-requires-else-word_too_large
+word_too_large-requires-else-word_too_large c = most (goal.at.word_too_large-requires-else-word_too_large c).In_ok-field
+
+pub returns-then-word_too_large : goal.returns-then-word_too_large
 unfolding halved_faults
-returns-in-Value c = call_accepted _ _ (fault (goal.at.returns-in-Value c).After-first_fault) _ _ c.in-Value.is c.halved-words.ensures
+returns-then-word_too_large c =
+    let a = c.args in
+    let q = c.in_ok-field.field.polynomial in
+    value_refused (replicate 8 0) c.in_ok-field.field.modulus c.in_ok-field.ensures.0 (order (goal.at.returns-then-word_too_large c).In_ok-field)
+    (λ q. some_word_too_large q a.n a.row || some_word_too_large q a.n a.x) _
+    (elim c.then-word_too_large.branch [
+      | then-word_too_large-via-then-word_too_large w ↦ ap (λ (b : Bool). b || some_word_too_large q a.n a.x) (sym c.word_too_large.ensures ∙ w.if-word_too_large.true)
+      | then-word_too_large-via-else-word_too_large+then-word_too_large-2 w ↦
+          ap (λ (b : Bool). some_word_too_large q a.n a.row || b) (sym w.word_too_large-else-word_too_large.ensures ∙ w.if-word_too_large-2.true) ∙ or-true _
+    ])
+
+pub halved-requires : goal.halved-requires
+halved-requires c = (
+  halved_order_passes _ (order (goal.at.halved-requires c).In_ok-field),
+  words_pass _ _ _ (sym c.word_too_large.ensures ∙ c.if-word_too_large.false),
+  words_pass _ _ _ (sym c.word_too_large-else-word_too_large.ensures ∙ c.if-word_too_large-2.false),
+)
+
+pub returns : goal.returns
+unfolding halved_faults
+returns c =
+    let a = c.args in
+    value_yielded (replicate 8 0) c.in_ok-field.field.modulus c.in_ok-field.ensures.0 (order (goal.at.returns c).In_ok-field)
+    (λ q. some_word_too_large q a.n a.row || some_word_too_large q a.n a.x)
+    (neither (sym c.word_too_large.ensures ∙ c.if-word_too_large.false) (sym c.word_too_large-else-word_too_large.ensures ∙ c.if-word_too_large-2.false))
+    (c.halved.ensures ∙ ap (λ (q : ℕ). apply (numbers q) a.n (hadamard (numbers q) a.row) a.x ++ replicate (8 - a.n) 0) c.in_ok-field.ensures.0)

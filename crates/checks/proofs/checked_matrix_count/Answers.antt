@@ -1,25 +1,14 @@
 -- `checks::checked_matrix_count` meets its contract. Assumes nothing.
-use Rattle.field.proofs.Calls.{modulus_fits}
-use Rattle.checks.proofs.CallFaults.{Sound, matrix_sound, call_refused, call_accepted}
-use borrow.Author.Rules.{rules}
+use mathlib.Core.Path.{ap, ◌∙◌}
+use Prim.Native.Nat.{ℕ}
+use Rattle.lines.specs.Numbers.{entry}
+use Rattle.lines.specs.Counts.{matrix_count}
+use Rattle.checks.proofs.CallFaults.{call_returned, call_accepted}
 use Rattle.checks.proofs.checked_matrix_count.Goals as goal
-use Rattle.checks.proofs.checked_matrix_count.Goals.{In-Value}
 
-pub enum_told-1 : goal.enum_told-1
-enum_told-1 c = search rules
+pub returns-in_err-field : goal.returns-in_err-field
+returns-in_err-field c =
+    call_returned _ 0 _ _ _ _ c.from_residual.ensures.1 c.in_err-field.ensures
 
--- nothing is refused
-sound : (c : In-Value) → let a = c.args in Sound a.p a.n a.m
-sound c = matrix_sound _ _ _ _ _ c.matrix_fault.ensures c.in-Value.is
-
-pub overflow_cast-p : goal.overflow_cast-p
-overflow_cast-p c = record { fits = modulus_fits (sound (goal.at.overflow_cast-p c).In-Value).modulus }
-
-pub matrix_count-requires : goal.matrix_count-requires
-matrix_count-requires c = let w = sound (goal.at.matrix_count-requires c).In-Value in (w.modulus, w.low, w.high, w.values)
-
-pub returns-in-Refused : goal.returns-in-Refused
-returns-in-Refused c = call_refused _ _ c.matrix_fault.ensures _ _ _ c.in-Refused.is
-
-pub returns-in-Value : goal.returns-in-Value
-returns-in-Value c = call_accepted _ _ c.matrix_fault.ensures _ _ c.in-Value.is c.matrix_count.ensures
+pub returns : goal.returns
+returns c = call_accepted 0 _ c.in_ok-field.ensures.4 (c.matrix_count.ensures ∙ ap (λ (q : ℕ). matrix_count q c.args.n (entry c.args.m)) c.in_ok-field.ensures.0)

@@ -1,35 +1,39 @@
 -- `checks::checked_row_count` meets its contract. Assumes nothing.
-use Rattle.field.specs.Polynomial.{some_below}
-use Rattle.field.proofs.Calls.{modulus_fits}
+use mathlib.Core.Path.{◌≡◌, sym, ap, ◌∙◌}
+use mathlib.Core.Bool.{false}
+use Prim.Native.Nat.{ℕ}
+use lib.ListN.{get_or}
+use Rattle.lines.specs.Counts.{row_count}
 use Rattle.checks.specs.Answers.{is_wrong_order, some_word_too_large, row_faults}
-use Rattle.checks.specs.Steps.{some_value_too_large}
-use Rattle.checks.proofs.CallFaults.{Outcome-after, accepted, order_passes, words_pass, call_refused, call_accepted}
-use borrow.Author.Rules.{rules}
+use Rattle.checks.proofs.CallFaults.{order_passes, words_pass, call_returned, value_refused, value_yielded}
 use Rattle.checks.proofs.checked_row_count.Goals as goal
-use Rattle.checks.proofs.checked_row_count.Goals.{After-first_fault}
+use Rattle.checks.proofs.checked_row_count.Goals.{In_ok-field}
 
-pub enum_told-1 : goal.enum_told-1
-enum_told-1 c = search rules
+pub returns-in_err-field : goal.returns-in_err-field
+unfolding row_faults
+returns-in_err-field c =
+    rw (sym c.is_wrong_order.ensures) (call_returned _ 0 _ _ _ _ c.from_residual.ensures.1 (c.in_err-field.ensures _))
 
--- the order and the values are judged as they are defined
-fault : (c : After-first_fault)
-    → let a = c.args in Outcome-after c.first_fault.result a.p (is_wrong_order a.n) (some_word_too_large a.p a.n a.row)
-unfolding is_wrong_order some_value_too_large some_below
-fault c = c.first_fault.ensures
+order : (c : In_ok-field) → is_wrong_order c.args.n ≡ false
+order c = sym c.is_wrong_order.ensures ∙ c.in_ok-field.ensures.1
 
-pub overflow_cast-p : goal.overflow_cast-p
-overflow_cast-p c = record { fits = modulus_fits (accepted _ _ _ _ _ (fault (goal.at.overflow_cast-p c).After-first_fault) c.in-Value.is).modulus }
+pub word_too_large-requires : goal.word_too_large-requires
+word_too_large-requires c = (order_passes _ (order (goal.at.word_too_large-requires c).In_ok-field)).1
+
+pub returns-then-word_too_large : goal.returns-then-word_too_large
+unfolding row_faults
+returns-then-word_too_large c =
+    value_refused 0 c.in_ok-field.field.modulus c.in_ok-field.ensures.0 (order (goal.at.returns-then-word_too_large c).In_ok-field) (λ q. some_word_too_large q c.args.n c.args.row) _
+    (sym c.word_too_large.ensures ∙ c.if-word_too_large.true)
 
 pub row_count-requires : goal.row_count-requires
 row_count-requires c =
-    let a = accepted _ _ _ _ _ (fault (goal.at.row_count-requires c).After-first_fault) c.in-Value.is in
-    let w = order_passes _ a.order in
-    (a.modulus, w.0, w.1, words_pass _ _ _ a.values)
+    let w = order_passes _ (order (goal.at.row_count-requires c).In_ok-field) in
+    (w.0, w.1, words_pass _ _ _ (sym c.word_too_large.ensures ∙ c.if-word_too_large.false))
 
-pub returns-in-Refused : goal.returns-in-Refused
+pub returns : goal.returns
 unfolding row_faults
-returns-in-Refused c = call_refused _ _ (fault (goal.at.returns-in-Refused c).After-first_fault) _ _ _ c.in-Refused.is
-
-pub returns-in-Value : goal.returns-in-Value
-unfolding row_faults
-returns-in-Value c = call_accepted _ _ (fault (goal.at.returns-in-Value c).After-first_fault) _ _ c.in-Value.is c.row_count.ensures
+returns c =
+    value_yielded 0 c.in_ok-field.field.modulus c.in_ok-field.ensures.0 (order (goal.at.returns c).In_ok-field) (λ q. some_word_too_large q c.args.n c.args.row)
+    (sym c.word_too_large.ensures ∙ c.if-word_too_large.false)
+    (c.row_count.ensures ∙ ap (λ (q : ℕ). row_count q c.args.n (λ j. get_or c.args.row j 0)) c.in_ok-field.ensures.0)

@@ -9,11 +9,11 @@ use Rattle.checks.proofs.is_mds.Goals as goal
 pub regular_between-requires : goal.regular_between-requires
 regular_between-requires c =
     let pre = c.requires in
-    (pre.0, pre.2, le_refl _, pre.3, c.products-products.ensures, omega arith)
+    (pre.1, le_refl _, pre.2, omega arith)
 
 pub returns : goal.returns
 unfolding InField
 returns c =
     let a = c.args in
     let pre = c.requires in
-    c.regular_between.ensures ∙ sym (mds_is_regular a.p pre.0 a.n (entry a.m) pre.3 pre.1)
+    c.regular_between.ensures ∙ sym (mds_is_regular a.field.polynomial a.field.modulus a.n (entry a.m) pre.2 pre.0)

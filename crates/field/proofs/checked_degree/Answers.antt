@@ -1,33 +1,22 @@
 -- `field::checked_degree` meets its contract. Assumes nothing.
-use mathlib.Core.Path.{◌≡◌, sym, ap, ◌∙◌}
-use Rattle.refusal.specs.declared.Refusal.{Refusal}
-use Rattle.refusal.specs.declared.Refusal.TheVariants.{PolynomialRange, Reducible}
-use Rattle.refusal.specs.Refusals.{number_of, first_number, answer, answer_after}
-use Rattle.refusal.proofs.Faults.{number_not_zero, after_none, after_number}
+use mathlib.Core.Path.{sym, ap, ◌∙◌}
+use Prim.Native.Nat.{ℕ}
+use Rattle.std.proofs.lemmas.Result.{err_from_is_err_and}
+use Rattle.refusal.specs.Refusals.{answer, first_number}
+use Rattle.refusal.proofs.Faults.{after_number, after_none, number_not_zero}
 use Rattle.field.specs.Polynomial.{degree}
 use Rattle.field.specs.Faults.{polynomial_faults}
-use Rattle.field.proofs.Calls.{below_range, above_range, outside_number, reducible_number, modulus_number}
-use Prim.Native.Nat.{ℕ}
+use Rattle.field.proofs.Calls.{modulus_number}
 use Rattle.field.proofs.checked_degree.Goals as goal
+use Rattle.field.proofs.checked_degree.Goals.{In_ok-field}
 
--- refused where the first fault has this number
-refused : (p : ℕ) (r : Refusal) → first_number (polynomial_faults p) ≡ number_of r → answer (number_of r) 0 ≡ answer_after 0 (polynomial_faults p) (degree p)
-refused p r e = after_number 0 (degree p) (polynomial_faults p) (number_of r) e (number_not_zero r)
+pub returns-in_err-field : goal.returns-in_err-field
+returns-in_err-field c =
+    let p = err_from_is_err_and c.from_residual.result c.from_residual.ensures.1 in
+    rw (p.1, p.2) (after_number 0 _ (polynomial_faults c.args.p) _ (sym c.in_err-field.ensures) (number_not_zero c.in_err-field.field-0.0))
 
-pub returns-then-p-lt4 : goal.returns-then-p-lt4
-returns-then-p-lt4 c = refused c.args.p PolynomialRange (outside_number _ (below_range _ c.if-p-lt4.true))
-
-pub returns-then-p-gt511 : goal.returns-then-p-gt511
-returns-then-p-gt511 c = refused c.args.p PolynomialRange (outside_number _ (above_range _ c.if-p-gt511.true))
-
-pub returns-then-irreducible : goal.returns-then-irreducible
-returns-then-irreducible c =
-    let p = c.args.p in
-    ap (answer 0) c.degree.ensures
-    ∙ after_none 0 (degree p) (polynomial_faults p)
-    (modulus_number p (record { low = c.if-p-lt4.false; high = c.if-p-gt511.false; irreducible = sym c.irreducible.ensures ∙ c.if-irreducible.true }))
-
-pub returns-else-irreducible : goal.returns-else-irreducible
-returns-else-irreducible c =
-    refused c.args.p Reducible
-    (reducible_number _ c.if-p-lt4.false c.if-p-gt511.false (sym c.irreducible.ensures ∙ c.if-irreducible.false))
+pub returns : goal.returns
+returns c =
+    let field = c.in_ok-field.field in
+    ap (answer 0) (c.from.ensures ∙ c.degree.ensures ∙ ap degree c.in_ok-field.ensures)
+    ∙ after_none 0 _ (polynomial_faults c.args.p) (ap (λ (q : ℕ). first_number (polynomial_faults q)) (sym c.in_ok-field.ensures) ∙ modulus_number field.polynomial field.modulus)

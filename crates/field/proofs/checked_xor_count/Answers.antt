@@ -1,28 +1,42 @@
--- `field::checked_xor_count` meets its contract: what the polynomial is refused for, the call is. Assumes nothing.
-use mathlib.Core.Path.{◌∙◌}
-use Rattle.refusal.specs.Refusals.{first_number, answer_after}
-use Rattle.refusal.proofs.Faults.{outcome_refused}
-use Rattle.field.specs.Polynomial.{Modulus}
-use Rattle.field.specs.Faults.{polynomial_faults, count_faults}
-use Rattle.field.proofs.Calls.{degree_modulus, modulus_passed, modulus_fits}
+-- `field::checked_xor_count` meets its contract. Assumes nothing.
+use mathlib.Core.Path.{◌≡◌, refl, sym, ap, ap₂, ◌∙◌}
+use mathlib.Core.Bool.{false}
+use Prim.Native.Nat.{ℕ}
+use Rattle.std.proofs.lemmas.Result.{err_from_is_err_and}
+use Rattle.refusal.specs.Refusals.{answer}
+use Rattle.refusal.proofs.Faults.{refused_before}
+use Rattle.field.specs.Polynomial.{xor_count}
+use Rattle.field.specs.Faults.{is_too_large, polynomial_faults, count_faults}
+use Rattle.field.proofs.Calls.{value_refused, value_yielded, not_too_large}
 use Rattle.field.proofs.checked_xor_count.Goals as goal
-use Rattle.field.proofs.checked_xor_count.Goals.{In-Value}
+use Rattle.field.proofs.checked_xor_count.Goals.{In_ok-field, In_ok-first}
 
--- the polynomial passes where its degree is told
-modulus : (c : In-Value) → Modulus c.args.p
-modulus c = degree_modulus _ c.args.p _ c.checked_degree.ensures c.in-Value.is
-
-pub overflow_cast-p : goal.overflow_cast-p
-overflow_cast-p c = record { fits = modulus_fits (modulus (goal.at.overflow_cast-p c).In-Value) }
-
-pub xor_count_over-requires : goal.xor_count_over-requires
-xor_count_over-requires c = modulus (goal.at.xor_count_over-requires c).In-Value
-
-pub returns-in-Refused : goal.returns-in-Refused
+pub returns-in_err-field : goal.returns-in_err-field
 unfolding count_faults
-returns-in-Refused c =
-    outcome_refused _ (polynomial_faults c.args.p) _ c.checked_degree.ensures 0 _ _ _ c.in-Refused.is
+returns-in_err-field c =
+    let p = err_from_is_err_and c.from_residual.result c.from_residual.ensures.1 in
+    rw (p.1, p.2) (refused_before 0 _ (polynomial_faults c.args.p) _ _ c.in_err-field.ensures)
 
-pub returns-in-Value : goal.returns-in-Value
-unfolding count_faults first_number answer_after
-returns-in-Value c = c.xor_count_over.ensures ∙ modulus_passed 0 _ c.args.p _ (modulus (goal.at.returns-in-Value c).In-Value)
+-- whether the value is too large, over the field made
+large : (c : In_ok-field) → is_too_large c.in_ok-field.field.polynomial c.args.a ≡ is_too_large c.args.p c.args.a
+large c = ap (λ (q : ℕ). is_too_large q c.args.a) c.in_ok-field.ensures
+
+pub returns-in_err-first : goal.returns-in_err-first
+unfolding count_faults
+returns-in_err-first c =
+    let p = err_from_is_err_and c.from_residual-in_err-first.result c.from_residual-in_err-first.ensures.1 in
+    let said = c.in_err-first.ensures in
+    rw (p.1, p.2, said.0)
+    (value_refused 0 _ _ false c.in_ok-field.field.modulus c.in_ok-field.ensures (sym (large (goal.at.returns-in_err-first c).In_ok-field) ∙ said.1))
+
+pub xor_count-requires : goal.xor_count-requires
+xor_count-requires c =
+    let said = c.in_ok-first.ensures in
+    rw said.0 (not_too_large c.in_ok-field.field.polynomial c.args.a said.1)
+
+pub returns : goal.returns
+unfolding count_faults
+returns c =
+    let said = c.in_ok-first.ensures in
+    ap (answer 0) (c.from.ensures ∙ c.xor_count.ensures ∙ ap₂ xor_count c.in_ok-field.ensures said.0)
+    ∙ value_yielded 0 _ _ false c.in_ok-field.field.modulus c.in_ok-field.ensures (sym (large (goal.at.returns c).In_ok-field) ∙ said.1) refl

@@ -1,16 +1,15 @@
 -- `gates::carrier_of` meets its contract: the three cases of the definition. Assumes nothing.
-use mathlib.Core.Path.{◌∙◌}
-use native.Mathlib.Nat.{le_trans}
-use lib.Dec.{lit≤}
-use Rattle.gates.proofs.InputArrays.{carrier_none, carrier_one, carrier_more}
-use borrow.Author.Rules.{rules}
+use Rattle.std.proofs.Common.{arith, lit≤, ◌∙◌, ap, ◌+◌, ℕ, length-take, length-drop}
+use Rattle.gates.proofs.InputLists.{carrier_none, carrier_one, carrier_more}
 use Rattle.gates.proofs.carrier_of.Goals as goal
 
-pub returns-then-inputs-eq0 : goal.returns-then-inputs-eq0
-returns-then-inputs-eq0 c = (carrier_none _ _ c.if-inputs-eq0.true, lit≤ tt)
+pub returns-in-empty : goal.returns-in-empty
+returns-in-empty c = (carrier_none _ _ (omega arith), lit≤ tt)
 
-pub returns-then-inputs-eq1 : goal.returns-then-inputs-eq1
-returns-then-inputs-eq1 c = (c.wide.ensures.0 ∙ carrier_one _ _ c.if-inputs-eq1.true, le_trans c.wide.ensures.1 (lit≤ tt))
+pub returns-in-len1 : goal.returns-in-len1
+returns-in-len1 c = (c.from.ensures ∙ carrier_one _ _ (omega arith), omega (arith, (c.type_inv.inputs 0).fits))
 
-pub returns : goal.returns
-returns c = (carrier_more _ _ c.if-inputs-eq0.false c.if-inputs-eq1.false, search rules)
+pub returns-in-len2-up : goal.returns-in-len2-up
+returns-in-len2-up c =
+    simp (length-take, length-drop)
+    (ap (λ (k : ℕ). c.args.next + k) (omega arith) ∙ carrier_more _ _ (λ e. omega arith) (λ e. omega arith), omega arith)

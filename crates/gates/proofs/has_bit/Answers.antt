@@ -15,4 +15,4 @@ unfolding bit
 returns c =
     let a = c.args in
     ap (λ (x : ℕ). eqb x 1)
-    (and_mask (c.product.result / 2 ^ a.b) 1 ∙ ap (λ (x : ℕ). x / 2 ^ a.b % 2) (c.product.ensures ∙ ap (product a.p a.a) (shl_exact 1 a.j 8 (omega arith) (omega arith) ∙ one-mul (2 ^ a.j))))
+    (and_mask (c.product.result / 2 ^ a.b) 1 ∙ ap (λ (x : ℕ). x / 2 ^ a.b % 2) (c.product.ensures ∙ ap (product a.field.polynomial a.a) (shl_exact 1 a.j 8 (omega arith) (omega arith) ∙ one-mul (2 ^ a.j))))

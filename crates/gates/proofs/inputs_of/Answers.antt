@@ -1,95 +1,63 @@
 -- `gates::inputs_of` meets its contract. Assumes nothing.
-use mathlib.Core.Path.{◌≡◌, sym, ap₂, ◌∙◌}
-use Prim.Native.Nat.{◌*◌, ◌/◌, ◌%◌, ◌≤◌, ◌<◌, zero-le}
+use Rattle.std.proofs.Common.{◌≡◌, sym, ap, ◌∙◌, ◌*◌, ◌≤◌, ◌<◌, arith, get_or, length, lit<, List, [], ◌∷◌, ◌++◌, ℕ}
 use native.Mathlib.Nat.{mod-lt, div-lt_iff_lt-mul, mul-le-mul}
-use native.Mathlib.Omega.{arith}
-use lib.ListN.{get_or}
 use Rattle.field.specs.Polynomial.{degree}
-use Rattle.field.proofs.Degrees.{polynomial}
 use Rattle.lines.specs.Numbers.{WordsInField}
 use Rattle.gates.specs.Gates.{is_input, inputs_of}
-use Rattle.gates.proofs.InputArrays.{inputs_in, inputs_none, inputs_room, inputs_left, inputs_taken}
+use Rattle.gates.proofs.InputLists.{width, passing_few, passing_none, passing_left, passing_taken}
 use Rattle.gates.proofs.inputs_of.Goals as goal
-use Rattle.gates.proofs.inputs_of.Goals.{After-degree-m, After-has_bit, In-loop-v, then-has_bit, else-has_bit}
+use Rattle.gates.proofs.inputs_of.Goals.{After-from-m, After-has_bit, In-loop-v, then-has_bit, else-has_bit}
 
--- m is the degree, from 2 to 8, so there are at most 64 input bits
-deg : (c : After-degree-m) → c.degree-m.result ≡ degree c.args.p
-deg c = c.degree-m.ensures
+-- m is the degree
+same : (c : After-from-m) → c.from-m.result ≡ degree c.args.field.polynomial
+same c = c.from-m.ensures ∙ c.degree.ensures
 
-low : (c : After-degree-m) → 0 < c.degree-m.result
-low c = omega (arith, deg c, (polynomial _ c.requires.0).least)
-
-high : (c : After-degree-m) → c.degree-m.result ≤ 8
-high c = omega (arith, deg c, (polynomial _ c.requires.0).most)
-
-bits : (c : After-degree-m) → c.args.n * c.degree-m.result ≤ 64
-bits c = mul-le-mul c.requires.1 (high c)
-
-pub overflow_mul-end : goal.overflow_mul-end
-overflow_mul-end c = record { fits = omega (arith, bits (goal.at.overflow_mul-end c).After-degree-m) }
+bits : (c : After-from-m) → (0 < c.from-m.result) × (c.from-m.result ≤ 8)
+bits c = width c.args.field.polynomial _ c.args.field.modulus (same c)
 
 pub loop-v-init : goal.loop-v-init
-loop-v-init c = (zero-le, inputs_none _)
+loop-v-init c = c.new-inputs.ensures ∙ passing_none _
 
 -- the word and the bit of input v
-word : (c : In-loop-v) → c.loop-v.v / c.degree-m.result < c.args.n
-word c = (div-lt_iff_lt-mul (low c.before.before)).1 c.loop-v-test.true
-
-place : (c : In-loop-v) → c.loop-v.v % c.degree-m.result < 8
-place c = omega (arith, mod-lt c.loop-v.v (low c.before.before), high c.before.before)
-
-pub nonzero_div-v : goal.nonzero_div-v
-nonzero_div-v c = omega (arith, low (goal.at.nonzero_div-v c).After-degree-m)
-
-pub bounds-line-v : goal.bounds-line-v
-bounds-line-v c = omega (arith, (div-lt_iff_lt-mul (low (goal.at.bounds-line-v c).After-degree-m)).1 c.loop-v-test.true, c.requires.1)
-
-pub nonzero_rem-v : goal.nonzero_rem-v
-nonzero_rem-v c = omega (arith, low (goal.at.nonzero_rem-v c).After-degree-m)
-
 pub has_bit-requires : goal.has_bit-requires
 unfolding WordsInField
 has_bit-requires c =
-    (c.requires.0, c.requires.2 _ (word (goal.at.has_bit-requires c).In-loop-v), place (goal.at.has_bit-requires c).In-loop-v, c.requires.3)
+    let m = bits (goal.at.has_bit-requires c).After-from-m in
+    (c.requires.1 _ ((div-lt_iff_lt-mul m.0).1 c.loop-v-test.true), omega (arith, mod-lt c.loop-v.v m.0), c.requires.2)
 
 -- input v is below 64, and there is room for it
 below : (c : In-loop-v) → c.loop-v.v < 64
-below c = omega (arith, bits c.before.before, c.loop-v-test.true)
+below c =
+    let all : c.args.n * c.from-m.result ≤ 64 = mul-le-mul c.requires.0 (bits c.before.before.before).1 in
+    omega (arith, c.loop-v-test.true)
 
-room : (c : In-loop-v) → c.loop-v.count < 64
-room c = omega (arith, below c, inputs_room _ c.loop-v.list c.loop-v.count c.loop-v.v c.loop-v.invariant.1)
+pub overflow_cast-v : goal.overflow_cast-v
+overflow_cast-v c = record { fits = omega (arith, below (goal.at.overflow_cast-v c).In-loop-v) }
 
-pub overflow_cast-list : goal.overflow_cast-list
-overflow_cast-list c = record { fits = omega (arith, below (goal.at.overflow_cast-list c).In-loop-v) }
-
-pub bounds-list-count : goal.bounds-list-count
-bounds-list-count c = omega (arith, room (goal.at.bounds-list-count c).In-loop-v)
-
-pub overflow_add-count : goal.overflow_add-count
-overflow_add-count c = record { fits = omega (arith, room (goal.at.overflow_add-count c).In-loop-v) }
-
-pub overflow_add-v : goal.overflow_add-v
-overflow_add-v c = record { fits = omega (arith, below (goal.at.overflow_add-v c).In-loop-v) }
+pub push-requires : goal.push-requires
+push-requires c =
+    let few = passing_few (is_input c.args.field.polynomial (λ j. get_or c.args.line j 0) c.args.b) c.loop-v.v 0 in
+    let room : length c.loop-v.inputs.items < 64 = omega (arith, few, below (goal.at.push-requires c).In-loop-v, ap length c.loop-v.invariant) in
+    (lit< tt, room)
 
 -- the test is the definition's
-test : (c : After-has_bit)
-    → let start = c.args in
-    is_input start.p (λ j. get_or start.line j 0) start.b c.loop-v.v ≡ c.has_bit.result
+test : (c : After-has_bit) → is_input c.args.field.polynomial (λ j. get_or c.args.line j 0) c.args.b c.loop-v.v ≡ c.has_bit.result
 unfolding is_input
-test c = rw (← deg c.before.before.before) (sym c.has_bit.ensures)
+test c = rw (← same c.before.before.before.before) (sym c.has_bit.ensures)
 
 pub loop-v-preserved : goal.loop-v-preserved
 loop-v-preserved c =
-    let at = c.loop-v in (
-      omega (arith, c.loop-v-test.true),
-      elim c.if-has_bit.branch [
-        | then-has_bit w ↦ ap₂ inputs_in w.list-is w.count-is ∙ inputs_taken _ at.list at.count at.v at.invariant.1 (test (goal.at.loop-v-preserved c).After-has_bit ∙ w.if-has_bit.true) (below (goal.at.loop-v-preserved c).In-loop-v)
-        | else-has_bit w ↦ ap₂ inputs_in w.list-is w.count-is ∙ inputs_left _ at.list at.count at.v at.invariant.1 (test (goal.at.loop-v-preserved c).After-has_bit ∙ w.if-has_bit.false)
-      ],
-    )
+    let v = c.loop-v.v in
+    let t = test (goal.at.loop-v-preserved c).After-has_bit in
+    elim c.if-has_bit.branch [
+      | then-has_bit w ↦
+          rw w.inputs-is
+          (w.push.ensures.items ∙ ap (λ (l : List ℕ). l ++ (v ∷ [])) c.loop-v.invariant ∙ sym (passing_taken _ v (t ∙ w.if-has_bit.true)))
+      | else-has_bit w ↦ rw w.inputs-is (c.loop-v.invariant ∙ sym (passing_left _ v (t ∙ w.if-has_bit.false)))
+    ]
 
 pub returns : goal.returns
 unfolding inputs_of
 returns c =
-    let all : c.loop-v.v ≡ c.args.n * degree c.args.p = rw (← deg (goal.at.returns c).After-degree-m) (omega (arith, c.loop-v-test.false, c.loop-v.invariant.0)) in
-    rw all at c.loop-v.invariant.1
+    let all : c.loop-v.v ≡ c.args.n * degree c.args.field.polynomial = rw (← same (goal.at.returns c).After-from-m) (omega arith) in
+    rw all at c.loop-v.invariant

@@ -6,6 +6,8 @@ use Rattle.std.specs.Int.Count.{ones}
 use Rattle.algebra.specs.Matrix.{chosen}
 use Rattle.field.specs.Polynomial.{first_below}
 use Rattle.field.specs.Steps.{every_below}
+use Rattle.matrix.specs.declared.block.Look.{Look}
+use Rattle.matrix.specs.declared.block.Look.TheVariants.{All, Translations, Rotations}
 
 -- the choice whose places are those of a choice, each exclusive-or t
 unfoldable pub translated : ℕ → ℕ → ℕ
@@ -29,6 +31,12 @@ unfoldable pub is_looked_at : ℕ → ℕ → Bool
 is_looked_at zero mask = true
 is_looked_at (suc zero) mask = is_least mask
 is_looked_at (suc (suc k)) mask = is_least_around (suc (suc k)) mask
+
+-- the number there of each way to look
+abbrev pub line_of : Look → ℕ
+line_of All = 0
+line_of Translations = 1
+line_of (Rotations n) = n
 
 -- a mask has k ones, and is looked at or not below 256
 unfoldable pub is_choice : ℕ → ℕ → ℕ → Bool

@@ -1,22 +1,10 @@
--- `multiply::added` meets its contract: after i turns the first i sums are stored. Assumes nothing.
-use mathlib.Core.Path.{◌≡◌, refl}
-use Prim.Native.Nat.{zero-le}
-use native.Mathlib.Omega.{arith}
-use Rattle.algebra.specs.Matrix.{tabulate}
+-- `multiply::added` meets its contract. Assumes nothing.
+use Rattle.std.proofs.Common.{rules}
 use Rattle.field.specs.Polynomial.{◌⊕◌}
-use Rattle.lines.proofs.Filled.{filled_more}
+use Rattle.lines.proofs.Filled.{filled_of}
 use Rattle.multiply.proofs.added.Goals as goal
 
-pub loop-i-init : goal.loop-i-init
-unfolding tabulate
-loop-i-init c = (zero-le, refl)
-
-pub loop-i-preserved : goal.loop-i-preserved
-unfolding ◌⊕◌
-loop-i-preserved c =
-    (omega arith, filled_more 0 _ c.loop-i.i c.loop-i.r _ (omega arith) c.loop-i.invariant.1 refl)
-
 pub returns : goal.returns
+unfolding ◌⊕◌
 returns c =
-    let last : c.loop-i.i ≡ c.args.n = omega arith in
-    rw last at c.loop-i.invariant.1
+    filled_of 0 _ c.args.n c.filled.result 0 (search rules) (search rules) (λ i l. let h = c.filled.ensures.first i l in search rules) (λ i l h. c.filled.ensures.behind i l)

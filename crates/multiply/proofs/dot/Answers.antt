@@ -1,6 +1,5 @@
 -- `multiply::dot` meets its contract: after j turns the first j products are added. Assumes nothing.
 use mathlib.Core.Path.{◌≡◌, refl}
-use Prim.Native.Nat.{zero-le}
 use native.Mathlib.Omega.{arith}
 use Rattle.algebra.specs.Matrix.{sum}
 use Rattle.lines.specs.Numbers.{WordsInField}
@@ -9,19 +8,17 @@ use Rattle.multiply.proofs.dot.Goals as goal
 
 pub loop-j-init : goal.loop-j-init
 unfolding sum
-loop-j-init c = (zero-le, refl)
+loop-j-init c = refl
 
 pub product-r-requires : goal.product-r-requires
 unfolding WordsInField
-product-r-requires c = (c.requires.0, c.requires.2 c.loop-j.j c.loop-j-test.true)
+product-r-requires c = c.requires.1 c.loop-j.j c.loop-j-test.true
 
 pub loop-j-preserved : goal.loop-j-preserved
-loop-j-preserved c = (
-  omega arith,
-  sum_more c.args.p c.loop-j.j _ c.loop-j.r c.product-r.result c.loop-j.invariant.1 c.product-r.ensures,
-)
+loop-j-preserved c =
+    sum_more c.args.field.polynomial c.loop-j.j _ c.loop-j.r c.product-r.result c.loop-j.invariant c.product-r.ensures
 
 pub returns : goal.returns
 returns c =
     let last : c.loop-j.j ≡ c.args.n = omega arith in
-    rw last at c.loop-j.invariant.1
+    rw last at c.loop-j.invariant

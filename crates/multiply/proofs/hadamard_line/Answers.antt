@@ -1,31 +1,19 @@
--- `multiply::hadamard_line` meets its contract: after j turns the first j entries are stored. Assumes nothing.
-use mathlib.Core.Path.{◌≡◌, refl}
-use Prim.Native.Nat.{zero-le}
+-- `multiply::hadamard_line` meets its contract. Assumes nothing.
+use Rattle.std.proofs.Common.{rules, ℕ, ◌<◌}
+use lib.Bits.{bit_xor}
 use native.Mathlib.Nat.{lt_of_lt_of_le}
-use native.Mathlib.Omega.{arith}
-use Rattle.algebra.specs.Matrix.{tabulate}
-use Rattle.lines.proofs.Filled.{filled_more}
+use Rattle.lines.proofs.Filled.{filled_of}
 use Rattle.multiply.proofs.Halving.{exponent, xor_below}
 use Rattle.multiply.proofs.hadamard_line.Goals as goal
 
-pub loop-j-init : goal.loop-j-init
-unfolding tabulate
-loop-j-init c = (zero-le, refl)
-
-pub bounds-row-i : goal.bounds-row-i
-bounds-row-i c =
-    lt_of_lt_of_le
-    (xor_below c.args.n c.args.i c.loop-j.j c.requires.0 c.requires.1 c.loop-j-test.true)
-    (exponent c.args.n c.requires.0).2
-
-pub bounds-r-j : goal.bounds-r-j
-bounds-r-j c = omega (arith, (exponent c.args.n c.requires.0).2)
-
-pub loop-j-preserved : goal.loop-j-preserved
-loop-j-preserved c =
-    (omega arith, filled_more 0 _ c.loop-j.j c.loop-j.r _ (omega (arith, (exponent c.args.n c.requires.0).2)) c.loop-j.invariant.1 refl)
+pub filled-requires : goal.filled-requires
+filled-requires c =
+    let most = (exponent c.args.n c.requires.0).2 in
+    let below : (j : ℕ) → j < c.args.n → bit_xor c.args.i j < 8 =
+    λ j l. lt_of_lt_of_le (xor_below c.args.n c.args.i j c.requires.0 c.requires.1 l) most in
+    search rules
 
 pub returns : goal.returns
 returns c =
-    let last : c.loop-j.j ≡ c.args.n = omega arith in
-    rw last at c.loop-j.invariant.1
+    let most = (exponent c.args.n c.requires.0).2 in
+    filled_of 0 _ c.args.n c.filled.result 0 most (search rules) (λ i l. let h = c.filled.ensures.first i l in search rules) (λ i l h. c.filled.ensures.behind i l)

@@ -8,11 +8,10 @@ use Rattle.reply.proofs.refuse.Goals as goal
 
 pub put_line-requires : goal.put_line-requires
 put_line-requires c =
-    (search rules, six_more _ (omega (arith, c.number_of-number.ensures, number_le c.args.reason)) six_none)
+    (search rules, six_more _ (omega (arith, c.from.ensures, number_le c.args.reason)) six_none)
 
 pub returns-then-space-ge7 : goal.returns-then-space-ge7
-returns-then-space-ge7 c =
-    refused_written c.args.reason _ c.number_of-number.ensures (search rules) c.put_line.ensures
+returns-then-space-ge7 c = let replied = refused_written c.args.reason (search rules) (rw c.from.ensures at c.put_line.ensures.put) in search rules
 
 pub returns-else-space-ge7 : goal.returns-else-space-ge7
-returns-else-space-ge7 c = refused_short c.args.reason _ _ c.number_of-number.ensures (search rules)
+returns-else-space-ge7 c = refused_short c.args.reason _ (search rules)

@@ -1,28 +1,36 @@
--- `search::checked_brief` meets its contract: what the polynomial is refused for, the brief is. Assumes nothing.
-use Rattle.refusal.proofs.Faults.{outcome_refused}
-use Rattle.field.specs.Polynomial.{Modulus}
-use Rattle.field.specs.Faults.{polynomial_faults}
-use Rattle.field.proofs.Calls.{degree_modulus, modulus_fits}
-use borrow.Author.Rules.{rules}
+-- `search::checked_brief` meets its contract: the first fault of the list is told. Assumes nothing.
+use mathlib.Core.Path.{refl, sym, ◌∙◌}
+use Rattle.std.proofs.lemmas.Result.{err_from_is_err_and}
+use Rattle.search.proofs.Refusals.{brief_before, brief_first}
 use Rattle.search.proofs.checked_brief.Goals as goal
-use Rattle.search.proofs.checked_brief.Goals.{In-Value}
 
-pub enum_told-1 : goal.enum_told-1
-enum_told-1 c = search rules
+pub returns-in_err-field : goal.returns-in_err-field
+returns-in_err-field c =
+    let p = err_from_is_err_and c.from_residual.result c.from_residual.ensures.1 in
+    rw (p.1, p.2) (brief_before _ _ _ _ _ c.in_err-field.ensures)
 
--- the polynomial passes where its degree is told
-modulus : (c : In-Value) → Modulus c.args.p
-modulus c = degree_modulus _ c.args.p _ c.checked_degree.ensures c.in-Value.is
+pub returns-then-is_wrong_order : goal.returns-then-is_wrong_order
+returns-then-is_wrong_order c =
+    brief_first _ _ _ _ c.in_ok-field.field.modulus c.in_ok-field.ensures (sym c.is_wrong_order.ensures ∙ c.if-is_wrong_order.true) refl refl refl
 
-pub overflow_cast-p : goal.overflow_cast-p
-overflow_cast-p c = record { fits = modulus_fits (modulus (goal.at.overflow_cast-p c).In-Value) }
+pub returns-then-is_wrong_count : goal.returns-then-is_wrong_count
+returns-then-is_wrong_count c =
+    brief_first _ _ _ _ c.in_ok-field.field.modulus c.in_ok-field.ensures (sym c.is_wrong_order.ensures ∙ c.if-is_wrong_order.false)
+    (sym c.is_wrong_count.ensures ∙ c.if-is_wrong_count.true) refl refl
 
-pub brief_over-requires : goal.brief_over-requires
-brief_over-requires c = modulus (goal.at.brief_over-requires c).In-Value
+pub returns-then-some_too_large : goal.returns-then-some_too_large
+returns-then-some_too_large c =
+    brief_first _ _ _ _ c.in_ok-field.field.modulus c.in_ok-field.ensures (sym c.is_wrong_order.ensures ∙ c.if-is_wrong_order.false)
+    (sym c.is_wrong_count.ensures ∙ c.if-is_wrong_count.false) (sym c.some_too_large.ensures ∙ c.if-some_too_large.true) refl
 
-pub returns-in-Refused : goal.returns-in-Refused
-returns-in-Refused c =
-    outcome_refused _ (polynomial_faults c.args.p) _ c.checked_degree.ensures 0 0 _ _ c.in-Refused.is
+pub returns-then-some_bad : goal.returns-then-some_bad
+returns-then-some_bad c =
+    brief_first _ _ _ _ c.in_ok-field.field.modulus c.in_ok-field.ensures (sym c.is_wrong_order.ensures ∙ c.if-is_wrong_order.false)
+    (sym c.is_wrong_count.ensures ∙ c.if-is_wrong_count.false) (sym c.some_too_large.ensures ∙ c.if-some_too_large.false) (sym c.some_bad.ensures ∙ c.if-some_bad.true)
 
-pub returns-in-Value : goal.returns-in-Value
-returns-in-Value c = c.brief_over.ensures
+pub returns : goal.returns
+returns c = (
+  c.in_ok-field.ensures,
+  sym (brief_first _ _ _ _ c.in_ok-field.field.modulus c.in_ok-field.ensures (sym c.is_wrong_order.ensures ∙ c.if-is_wrong_order.false)
+      (sym c.is_wrong_count.ensures ∙ c.if-is_wrong_count.false) (sym c.some_too_large.ensures ∙ c.if-some_too_large.false) (sym c.some_bad.ensures ∙ c.if-some_bad.false)),
+)

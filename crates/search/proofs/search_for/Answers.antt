@@ -1,62 +1,47 @@
 -- `search::search_for` meets its contract: what the brief is refused for, the search is; else the row kept is told. Assumes nothing.
-use mathlib.Core.Path.{◌≡◌, ap, ◌∙◌}
-use mathlib.Core.List.{[], ◌∷◌}
-use Rattle.refusal.specs.Refusals.{Answer, fault, first_number, answer_after}
-use Rattle.refusal.proofs.Faults.{outcome_passed, outcome_refused}
-use Rattle.field.proofs.Calls.{modulus_fits}
-use Rattle.rows.specs.Lightest.{Best}
+use mathlib.Core.Path.{◌≡◌, sym, ap, ◌∙◌}
+use Prim.Native.Nat.{ℕ}
+use native.Mathlib.Omega.{arith}
+use Rattle.std.proofs.lemmas.Result.{err_from_is_err_and}
+use Rattle.refusal.specs.declared.Refusal.TheVariants.{NoRow}
+use Rattle.refusal.specs.Refusals.{first_number}
+use Rattle.refusal.proofs.Faults.{refused_before}
 use Rattle.rows.specs.Shape.{shape_of}
-use Rattle.cuts.proofs.Families.{family_most}
-use Rattle.lightest.proofs.Prefixes.{best_is, kept_own}
-use Rattle.lightest.proofs.Start.{row_long, row_in_field}
-use Rattle.search.specs.Answer.{brief_faults, is_none, RowFound, no_row, row_found, search_faults, search_answer}
-use Rattle.search.proofs.Refusals.{BriefPassed, brief_passed, brief_behind}
-use borrow.Author.Rules.{rules}
+use Rattle.rows.specs.Keys.{lightest_row}
+use Rattle.search.specs.Answer.{brief_faults, no_row, search_faults, search_answer}
+use Rattle.search.proofs.Refusals.{brief_passed, brief_behind, nine, says_found, says_none}
 use Rattle.search.proofs.search_for.Goals as goal
-use Rattle.search.proofs.search_for.Goals.{In-Value, Start}
+use Rattle.search.proofs.search_for.Goals.{In_ok-field}
 
-pub enum_told-1 : goal.enum_told-1
-enum_told-1 c = search rules
-
--- nothing applies to the brief where the value is told
-none : (c : In-Value)
-    → first_number (brief_faults c.args.family c.args.p c.args.n c.args.candidates.now) ≡ 0
-none c = outcome_passed _ _ 0 c.checked_brief.ensures _ c.in-Value.is
-
-passed : (c : In-Value)
-    → BriefPassed c.args.family c.args.p c.args.n c.args.candidates.now
-passed c = brief_passed _ _ _ _ (none c)
-
-pub overflow_cast-p : goal.overflow_cast-p
-overflow_cast-p c = record { fits = modulus_fits (passed (goal.at.overflow_cast-p c).In-Value).modulus }
-
-pub overflow_cast-p-in-Value : goal.overflow_cast-p-in-Value
-overflow_cast-p-in-Value c = record { fits = modulus_fits (passed (goal.at.overflow_cast-p-in-Value c).In-Value).modulus }
+pub returns-in_err-field : goal.returns-in_err-field
+unfolding search_answer search_faults
+returns-in_err-field c =
+    let p = err_from_is_err_and c.from_residual.result c.from_residual.ensures.1 in
+    rw (p.1, p.2) (refused_before no_row _ (brief_faults c.args.family c.args.p c.args.n c.args.candidates.now) _ _ c.in_err-field.ensures)
 
 pub lightest_row-requires : goal.lightest_row-requires
-lightest_row-requires c = ((passed (goal.at.lightest_row-requires c).In-Value).modulus, (passed (goal.at.lightest_row-requires c).In-Value).order, (passed (goal.at.lightest_row-requires c).In-Value).large, (passed (goal.at.lightest_row-requires c).In-Value).bad)
+lightest_row-requires c =
+    let (made, none) = c.in_ok-field.ensures in
+    let a = c.args in
+    let h = brief_passed a.family c.in_ok-field.field.polynomial a.n a.candidates.now (ap (λ (q : ℕ). first_number (brief_faults a.family q a.n a.candidates.now)) made ∙ none) in
+    (h.order, h.large, h.bad)
 
-pub found-requires : goal.found-requires
-found-requires c =
-    let args = c.args in
-    let most = family_most args.family args.n (passed (goal.at.found-requires c).In-Value).order in
-    let b = c.lightest_row in
-    ((passed (goal.at.found-requires c).In-Value).modulus, most, row_in_field (shape_of args.family) args.p args.n args.candidates.now most b.result b.ensures, kept_own args.p args.n b.result _ (row_long (shape_of args.family) args.p args.n args.candidates.now) b.ensures)
-
-pub returns-in-Refused : goal.returns-in-Refused
+-- the row kept decides, where the brief passes
+behind : (c : In_ok-field) → let a = c.args in let q = c.in_ok-field.field.polynomial in
+    nine q a.n (lightest_row (shape_of a.family) q a.n a.candidates.now) ≡ search_answer a.family a.p a.n a.candidates.now
 unfolding search_answer search_faults
-returns-in-Refused c =
-    c.refused.ensures
-    ∙ outcome_refused _ _ _ c.checked_brief.ensures no_row _ _ _ c.in-Refused.is
+behind c =
+    let a = c.args in
+    let (made, none) = c.in_ok-field.ensures in
+    ap (λ (q : ℕ). nine q a.n (lightest_row (shape_of a.family) q a.n a.candidates.now)) made
+    ∙ brief_behind a.family a.p a.n a.candidates.now none no_row _ _
 
--- what is answered where nothing is refused before 9
-abbrev nine : Start → Best → Answer RowFound
-nine s b = answer_after no_row (fault 9 (is_none b) ∷ []) (row_found s.args.p s.args.n b)
+pub returns-in_err-best : goal.returns-in_err-best
+returns-in_err-best c =
+    let p = err_from_is_err_and c.from_residual-in_err-best.result c.from_residual-in_err-best.ensures.1 in
+    let said = c.in_err-best.ensures in
+    let reason : c.in_err-best.field-0.0 ≡ NoRow = grind (arith, said.value, said.ok_part) in
+    rw (p.1, p.2, reason) (says_none _ _ _ (sym said.ok_part ∙ c.lightest_row.ensures) ∙ behind (goal.at.returns-in_err-best c).In_ok-field)
 
-pub returns-in-Value : goal.returns-in-Value
-unfolding search_answer search_faults
-returns-in-Value c =
-    c.found.ensures
-    ∙ ap (nine (goal.at.returns-in-Value c).Start)
-    (best_is c.args.p c.args.n c.lightest_row.result _ (row_long (shape_of c.args.family) c.args.p c.args.n c.args.candidates.now) c.lightest_row.ensures)
-    ∙ brief_behind c.args.family c.args.p c.args.n c.args.candidates.now (none (goal.at.returns-in-Value c).In-Value) no_row _ _
+pub returns : goal.returns
+returns c = says_found _ _ _ c.in_ok-best.best (sym c.in_ok-best.ensures.ok_part ∙ c.lightest_row.ensures) ∙ behind (goal.at.returns c).In_ok-field

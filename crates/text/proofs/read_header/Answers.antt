@@ -8,12 +8,12 @@ use Rattle.refusal.proofs.Faults.{after_taken, after_left, after_empty}
 use Rattle.text.specs.Reading.{kind_of, polynomial_of, order_of, count_of, header_answer}
 use Rattle.text.proofs.read_header.Goals as goal
 
-pub returns-then-in_form : goal.returns-then-in_form
-unfolding header_answer kind_of polynomial_of order_of count_of
-returns-then-in_form c =
-    rw (c.number_at.ensures, c.number_at-then-in_form.ensures, c.number_at-then-in_form-2.ensures, c.number_at-then-in_form-3.ensures, c.budget_of.ensures)
-    (after_empty [] _ ∙ after_left [] _ 1 _ [] (ap not (sym c.in_form.ensures ∙ c.if-in_form.true)))
-
-pub returns-else-in_form : goal.returns-else-in_form
+pub returns-then-not-in_form : goal.returns-then-not-in_form
 unfolding header_answer
-returns-else-in_form c = after_taken [] _ Form _ [] (ap not (sym c.in_form.ensures ∙ c.if-in_form.false))
+returns-then-not-in_form c = after_taken [] _ Form _ [] (ap not (sym c.in_form.ensures ∙ c.if-not-in_form.true))
+
+pub returns : goal.returns
+unfolding header_answer kind_of polynomial_of order_of count_of
+returns c =
+    rw (c.number_at.ensures, c.number_at-2.ensures, c.number_at-3.ensures, c.number_at-4.ensures, c.budget_of.ensures)
+    (after_empty [] _ ∙ after_left [] _ 1 _ [] (ap not (sym c.in_form.ensures ∙ c.if-not-in_form.false)))

@@ -1,6 +1,6 @@
 -- The rows of different letters one after the other, as the code finds them: the row behind a row. Nobody need believe these: `row_behind_holds` of
 -- proofs/Behind.antt ties them to the list of all such rows.
-use Rattle.std.specs.Prelude.{◌≡◌, not, cond, ◌&&◌, List, [], ◌∷◌, ◌++◌, ℕ, zero, suc, ◌-◌, ◌<◌, eqb, ltb, length, get_or, take, replicate}
+use Rattle.std.specs.Prelude.{◌≡◌, not, cond, ◌&&◌, List, [], ◌∷◌, ◌++◌, ℕ, zero, suc, ◌-◌, ◌≤◌, ◌<◌, eqb, ltb, length, get_or, take, replicate, Option, MatchOption}
 use Rattle.algebra.specs.Matrix.{tabulate}
 use Rattle.rows.specs.Lightest.{member}
 
@@ -50,6 +50,15 @@ raised_below letters n row (suc i) =
 unfoldable pub row_behind : List ℕ → ℕ → List ℕ → List ℕ
 row_behind letters n row = raised_below letters n row n
 
+-- the array of the row behind a row, of which some entry is not 0; nothing behind the last
+abbrev pub BehindIs : List ℕ → ℕ → List ℕ → Option (List ℕ) → Type 0
+BehindIs letters n row found =
+    MatchOption found (row_behind letters n row ≡ replicate n 0) (λ r. (r ≡ eight n (row_behind letters n row)) × ((i : ℕ) × (i < n) × (0 < get_or r i 0)))
+
 -- the first row of n entries; all zeros where there are fewer letters
 unfoldable pub first_row : List ℕ → ℕ → List ℕ
 first_row letters n = cond (ltb (length letters) n) (replicate n 0) (filled_up letters [] n)
+
+-- the array of the first row; nothing where there are fewer letters
+abbrev pub FirstIs : List ℕ → ℕ → Option (List ℕ) → Type 0
+FirstIs letters n found = MatchOption found (length letters < n) (λ r. (n ≤ length letters) × (r ≡ eight n (first_row letters n)))

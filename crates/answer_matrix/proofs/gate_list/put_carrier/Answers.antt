@@ -9,8 +9,8 @@ use Rattle.answer_matrix.proofs.gate_list.put_carrier.Goals as goal
 pub put_line-requires : goal.put_line-requires
 put_line-requires c =
     let a = c.args in
-    (omega (arith, c.requires.2, length_line (carrier_line (carrier_of a.next a.inputs.now))), six_more _ c.carrier_of-carrier.ensures.1 six_none)
+    (omega (arith, c.requires.2, length_line (carrier_line (carrier_of a.next a.inputs.now))), six_more _ c.carrier_of.ensures.1 six_none)
 
 pub returns : goal.returns
 returns c =
-    rw c.carrier_of-carrier.ensures.0 at c.put_line.ensures
+    rw c.carrier_of.ensures.0 at c.put_line.ensures

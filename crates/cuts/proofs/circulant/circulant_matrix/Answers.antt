@@ -1,35 +1,10 @@
--- `cuts::circulant::circulant_matrix` meets its contract: after i turns the first i lines are stored. Assumes nothing.
-use mathlib.Core.Path.{◌≡◌, refl}
-use Prim.Native.Nat.{◌≤◌, zero-le}
-use native.Mathlib.Omega.{arith}
-use lib.ListN.{replicate}
-use Rattle.algebra.specs.Matrix.{tabulate}
+-- `cuts::circulant::circulant_matrix` meets its contract. Assumes nothing.
+use Rattle.std.proofs.Common.{rules, replicate}
 use Rattle.lines.specs.Steps.Blocks.{framed}
-use Rattle.lines.proofs.Filled.{filled_more}
+use Rattle.lines.proofs.Filled.{filled_of}
 use Rattle.cuts.proofs.circulant.circulant_matrix.Goals as goal
-
-pub loop-i-init : goal.loop-i-init
-unfolding tabulate
-loop-i-init c = (zero-le, refl)
-
-pub circulant_line-requires : goal.circulant_line-requires
-circulant_line-requires c = (c.requires, c.loop-i-test.true)
-
-pub offset_bounds-r-i : goal.offset_bounds-r-i
-offset_bounds-r-i c = omega (arith, c.requires)
-
-pub bounds-r-i : goal.bounds-r-i
-bounds-r-i c = omega (arith, c.requires)
-
-pub loop-i-preserved : goal.loop-i-preserved
-loop-i-preserved c =
-    let most : c.args.n ≤ 8 = c.requires in (
-      omega arith,
-      filled_more (replicate 8 0) _ c.loop-i.i c.loop-i.r c.circulant_line.result (omega arith) c.loop-i.invariant.1 c.circulant_line.ensures,
-    )
 
 pub returns : goal.returns
 unfolding framed
 returns c =
-    let last : c.loop-i.i ≡ c.args.n = omega arith in
-    rw last at c.loop-i.invariant.1
+    filled_of (replicate 8 0) _ c.args.n c.filled.result (replicate 8 0) c.requires (search rules) (λ i l. let h = c.filled.ensures.first i l in search rules) (λ i l h. c.filled.ensures.behind i l)

@@ -1,10 +1,10 @@
 -- `cuts::circulant::is_next` meets its contract. Assumes nothing.
 use mathlib.Core.Path.{◌≡◌, ap, ◌∙◌}
 use Prim.Native.Nat.{ℕ, ◌/◌, ◌^◌, ◌<◌}
-use native.Mathlib.Nat.{pos_of_ne-zero, lt_of_lt_of_le}
+use native.Mathlib.Nat.{pos_of_ne-zero}
 use native.Mathlib.Omega.{arith}
 use lib.Bits.{bit_and}
-use lib.Dec.{leb, lit≤}
+use lib.Dec.{leb}
 use lib.ListN.{length, get_or}
 use Rattle.matrix.proofs.Selections.{low_digit}
 use Rattle.rows.specs.Steps.Around.{prime_places, place_below}
@@ -29,18 +29,14 @@ place_inside c =
     let s = c.before.before in
     omega (arith, place_is s.args.n s.args.level, s.requires.1, below_lt s.args.n s.args.level s.requires.0 (pos_of_ne-zero c.if-level-eq0.false) s.requires.1)
 
-pub overflow_cast-low-2 : goal.overflow_cast-low-2
-unfolding prime_places
-overflow_cast-low-2 c = record { fits = lt_of_lt_of_le (place_inside (goal.at.overflow_cast-low-2 c).Else-level-eq0) (lit≤ tt) }
-
 pub bounds-row-low : goal.bounds-row-low
 unfolding prime_places
-bounds-row-low c = place_inside (goal.at.bounds-row-low c).Else-level-eq0
+bounds-row-low c = omega (arith, c.from-low.ensures, place_inside (goal.at.bounds-row-low c).Else-level-eq0)
 
 pub returns : goal.returns
 unfolding prime_places
 returns c =
     let a = c.args in
     let eight : length a.row ≡ 8 = search rules in
-    ap (λ (k : ℕ). leb (get_or a.row k 0) a.a) (place_is a.n a.level)
+    ap (λ (k : ℕ). leb (get_or a.row k 0) a.a) (c.from-low.ensures ∙ place_is a.n a.level)
     ∙ around_later a.n a.row a.level a.a c.requires.0 (omega (arith, c.requires.1)) (pos_of_ne-zero c.if-level-eq0.false) c.requires.1 (pos_of_ne-zero c.if-a-eq0.false)

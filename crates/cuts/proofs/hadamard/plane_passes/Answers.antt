@@ -12,20 +12,18 @@ returns-then-d-c c = plane_later _ _ _ _ _ _ c.if-d-c.true
 
 pub times-requires : goal.times-requires
 unfolding WordsInField
-times-requires c =
-    (c.requires.3 c.args.a (omega (arith, c.requires.0, c.requires.1)), c.requires.4)
+times-requires c = c.requires.3 c.args.a (omega (arith, c.requires.0, c.requires.1))
 
 pub times-requires-2 : goal.times-requires-2
 unfolding WordsInField
-times-requires-2 c =
-    (c.requires.3 _ (omega (arith, c.if-d-c.false)), c.requires.4)
+times-requires-2 c = c.requires.3 _ (omega (arith, c.if-d-c.false))
 
 pub returns-then-times : goal.returns-then-times
 returns-then-times c = plane_singular _ _ _ _ _ _ c.if-d-c.false (sym c.times.ensures ∙ c.if-times.true ∙ c.times-2.ensures)
 
 -- the products are not the same
 abbrev Singular : Start → Type 0
-Singular s = SingularPlane s.args.p s.args.row s.args.d s.args.b s.args.a
+Singular s = SingularPlane s.args.table.now.polynomial s.args.row s.args.d s.args.b s.args.a
 
 regular : (c : Else-times) → Singular c.before.before.before.before → ⊥
 regular c e = c.if-times.false (c.times.ensures ∙ e ∙ sym c.times-2.ensures)

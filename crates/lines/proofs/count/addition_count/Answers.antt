@@ -1,62 +1,69 @@
--- `lines::count::addition_count` meets its contract: after j turns the weight of the first j entries is counted. Assumes nothing.
+-- `lines::count::addition_count` meets its contract: after i turns the weight of the first i entries is counted. Assumes nothing.
 use mathlib.Core.Path.{◌≡◌, refl, sym, ap, ap₂, ◌∙◌}
+use mathlib.Core.Bool.{Bool, true, false, not}
 use Prim.Native.Nat.{ℕ, ◌+◌, ◌-◌, ◌*◌, ◌≤◌}
 use native.Mathlib.Nat.{mul-le-mul}
 use native.Mathlib.Omega.{arith}
+use mir.Val.{bool_byte}
 use lib.Dec.{eqb}
-use lib.ListN.{get_or}
+use lib.ListN.{get_or, length, take}
+use Rattle.std.proofs.Common.{rules}
+use Rattle.algebra.proofs.Words.{one_unless}
 use Rattle.algebra.specs.Matrix.{tabulate, weight}
-use Rattle.algebra.proofs.Weights.{one_unless_le}
 use Rattle.field.proofs.Degrees.{polynomial}
-use Rattle.lines.specs.Numbers.{numbers}
 use Rattle.lines.specs.Counts.{addition_count}
+use Rattle.lines.proofs.Filled.{front_at, front_length}
 use Rattle.lines.proofs.Tallies.{weight_most, weight_step}
 use Rattle.lines.proofs.count.addition_count.Goals as goal
-use Rattle.lines.proofs.count.addition_count.Goals.{After-degree, After-entry_weight-weight, At-loop-j}
+use Rattle.lines.proofs.count.addition_count.Goals.{At-loop-a}
 
-pub loop-j-init : goal.loop-j-init
+pub loop-a-init : goal.loop-a-init
 unfolding weight tabulate
-loop-j-init c = (omega arith, refl)
+loop-a-init c = refl
 
--- an entry adds at most 1
-one : (c : After-entry_weight-weight) → c.entry_weight-weight.result ≤ 1
-one c =
-    let start = c.before.before.before in
-    rw c.entry_weight-weight.ensures (one_unless_le (eqb (get_or start.args.line c.loop-j.j 0) 0))
+-- what an entry adds
+one : (zero : Bool) → bool_byte (not zero) ≡ one_unless zero
+one true = refl
+one false = refl
+
+bool_byte_le : (b : Bool) → bool_byte b ≤ 1
+bool_byte_le true = omega arith
+bool_byte_le false = omega arith
 
 -- the weight so far
-few : (c : At-loop-j) → c.loop-j.weight ≤ c.loop-j.j
-few c = rw c.loop-j.invariant.1 (weight_most c.args.p c.loop-j.j (λ j. get_or c.args.line j 0))
-
-pub overflow_add-weight : goal.overflow_add-weight
-overflow_add-weight c = record { fits = omega (arith, one (goal.at.overflow_add-weight c).After-entry_weight-weight, few (goal.at.overflow_add-weight c).At-loop-j) }
-
-pub loop-j-preserved : goal.loop-j-preserved
-loop-j-preserved c =
-    let args = c.args in
-    let loop = c.loop-j in (
-      omega arith,
-      ap₂ (λ (x y : ℕ). x + y) loop.invariant.1 c.entry_weight-weight.ensures ∙ sym (weight_step args.p loop.j (λ j. get_or args.line j 0)),
+few : (c : At-loop-a) → c.loop-a.weight ≤ c.args.n
+few c =
+    let last : c.loop-a.a-index ≤ length (take c.args.n c.args.line) = c.loop-a.auto.a-index-end in
+    omega (
+      arith,
+      c.loop-a.invariant,
+      weight_most c.args.field.polynomial c.loop-a.a-index (λ j. get_or c.args.line j 0),
+      last,
+      front_length c.args.n c.args.line c.requires (search rules),
     )
 
--- at most 7 additions of 8 bits
-small : (c : After-degree) → c.less_one.result * c.degree.result ≤ 56
-small c =
-    let last = c.before.before.before in
-    let start = last.before in
-    let sums : c.less_one.result ≤ 7 = omega (arith, c.less_one.ensures, few last, last.loop-j.invariant.0, start.requires.1) in
-    let bits : c.degree.result ≤ 8 = omega (arith, c.degree.ensures, (polynomial start.args.p start.requires.0).most) in
-    mul-le-mul sums bits
+pub overflow_add-weight : goal.overflow_add-weight
+overflow_add-weight c =
+    let bit : c.from-weight.result ≤ 1 = rw c.from-weight.ensures (bool_byte_le _) in
+    record { fits = omega (arith, bit, few (goal.at.overflow_add-weight c).At-loop-a, c.requires) }
 
+pub loop-a-preserved : goal.loop-a-preserved
+loop-a-preserved c =
+    let i = c.loop-a.a-index in
+    let line : ℕ → ℕ = λ j. get_or c.args.line j 0 in
+    let at = front_at c.args.n i c.args.line 0 c.loop-a-test.true in
+    ap₂ ◌+◌ c.loop-a.invariant (c.from-weight.ensures ∙ one (eqb _ 0) ∙ ap (λ (a : ℕ). one_unless (eqb a 0)) at.1)
+    ∙ sym (weight_step c.args.field.polynomial i line)
+
+-- at most 8 additions of 8 bits
 pub overflow_mul-result : goal.overflow_mul-result
-overflow_mul-result c = record { fits = omega (arith, small (goal.at.overflow_mul-result c).After-degree) }
+overflow_mul-result c =
+    let sums : c.saturating_sub.result ≤ 8 = omega (arith, c.saturating_sub.ensures, few (goal.at.overflow_mul-result c).At-loop-a, c.requires) in
+    let bits : c.from.result ≤ 8 = omega (arith, c.from.ensures, c.degree.ensures, (polynomial c.args.field.polynomial c.args.field.modulus).most) in
+    record { fits = omega (arith, mul-le-mul sums bits) }
 
 pub returns : goal.returns
 unfolding addition_count
 returns c =
-    let args = c.args in
-    let all : c.loop-j.j ≡ args.n = omega arith in
-    ap₂ (λ (x m : ℕ). x * m)
-    (c.less_one.ensures
-    ∙ ap (λ (w : ℕ). w - 1) (c.loop-j.invariant.1 ∙ ap (λ (k : ℕ). weight (numbers args.p) (tabulate k (λ j. get_or args.line j 0))) all))
-    c.degree.ensures
+    let all : c.loop-a.a-index ≡ c.args.n = omega (arith, front_length c.args.n c.args.line c.requires (search rules)) in
+    ap₂ ◌*◌ (c.saturating_sub.ensures ∙ ap (λ (w : ℕ). w - 1) (rw all at c.loop-a.invariant)) (c.from.ensures ∙ c.degree.ensures)

@@ -10,8 +10,8 @@ use Rattle.lines.proofs.count.row_count.Goals as goal
 pub overflow_add-result : goal.overflow_add-result
 overflow_add-result c =
     let line : ℕ → ℕ = λ j. get_or c.args.line j 0 in
-    let elements = element_count_le c.args.p c.args.n line c.requires.0 in
-    let additions = addition_count_le c.args.p c.args.n line c.requires.0 c.requires.2 in
+    let elements = element_count_le c.args.field.polynomial c.args.n line c.args.field.modulus in
+    let additions = addition_count_le c.args.field.polynomial c.args.n line c.args.field.modulus c.requires.1 in
     record { fits = omega (arith, c.element_count.ensures, c.addition_count.ensures, elements, additions) }
 
 pub returns : goal.returns

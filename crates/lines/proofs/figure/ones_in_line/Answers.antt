@@ -1,12 +1,13 @@
 -- `lines::figure::ones_in_line` meets its contract: after k turns the column is a times 2^k, and the ones of the columns before it are
 -- counted. Assumes nothing.
-use mathlib.Core.Path.{◌≡◌, refl, sym, ap, ap₂, subst⁻¹, ◌∙◌}
-use Prim.Native.Nat.{ℕ, ◌+◌, ◌*◌, ◌/◌, ◌%◌, ◌^◌, ◌≤◌, ◌<◌, zero-le}
+use mathlib.Core.Path.{◌≡◌, refl, sym, ap, ap₂, ◌∙◌}
+use Prim.Native.Nat.{ℕ, ◌+◌, ◌*◌, ◌/◌, ◌%◌, ◌^◌, ◌≤◌}
 use native.Mathlib.Nat.{pow-suc}
 use native.Mathlib.Numerals.{add-one}
 use native.Mathlib.Omega.{arith}
 use lib.Bits.{bit_and, and_mask}
 use Rattle.field.specs.Polynomial.{degree, product, rem}
+use Rattle.field.specs.declared.table.Field.{Field}
 use Rattle.field.proofs.Degrees.{HasDegree, polynomial}
 use Rattle.field.proofs.Field.{times_one_r, times_double, times_lt}
 use Rattle.lines.specs.Counts.{total}
@@ -14,7 +15,7 @@ use Rattle.lines.specs.Depths.{bit, ones_in_line}
 use Rattle.lines.proofs.Tallies.{total_step, total_le}
 use Rattle.lines.proofs.Depths.{bit_le}
 use Rattle.lines.proofs.figure.ones_in_line.Goals as goal
-use Rattle.lines.proofs.figure.ones_in_line.Goals.{In-loop-k}
+use Rattle.lines.proofs.figure.ones_in_line.Goals.{In-loop}
 
 -- the next column is twice the one before it
 next_column : (p m : ℕ) → HasDegree p m → (a k : ℕ) → product p (product p a (2 ^ k)) 2 ≡ product p a (2 ^ (k + 1))
@@ -24,53 +25,50 @@ next_column p m d a k =
     ∙ sym (times_double p m d a (2 ^ k))
     ∙ ap (product p a) (sym (ap (λ (n : ℕ). 2 ^ n) (add-one k) ∙ pow-suc 2 k))
 
-pub loop-k-init : goal.loop-k-init
+-- the field's polynomial has its degree
+has : (f : Field) → HasDegree f.polynomial (degree f.polynomial)
+has f = (polynomial f.polynomial f.modulus).has
+
+pub loop-init : goal.loop-init
 unfolding total
-loop-k-init c =
-    let poly = polynomial c.args.p c.requires.0 in (
-      zero-le,
-      subst⁻¹ (λ (n : ℕ). n ≤ 8) c.degree-m.ensures poly.most,
-      sym (times_one_r c.args.p (degree c.args.p) poly.has c.args.a c.requires.1),
-      refl,
-    )
+loop-init c =
+    let f = c.args.field in
+    (sym (times_one_r f.polynomial (degree f.polynomial) (has f) c.args.a c.requires.0), refl)
 
 -- the bit that is counted
-bit_is : (c : In-loop-k)
-    → bit_and (c.loop-k.column / 2 ^ c.args.b) 1
-    ≡ bit c.args.b (product c.args.p c.args.a (2 ^ c.loop-k.k))
+bit_is : (c : In-loop)
+    → bit_and (c.loop.column / 2 ^ c.args.b) 1 ≡ bit c.args.b (product c.args.field.polynomial c.args.a (2 ^ c.loop.counter))
 unfolding bit
 bit_is c =
-    let args = c.args in
-    and_mask (c.loop-k.column / 2 ^ args.b) 1 ∙ ap (λ (x : ℕ). x / 2 ^ args.b % 2) c.loop-k.invariant.2
+    and_mask (c.loop.column / 2 ^ c.args.b) 1 ∙ ap (λ (x : ℕ). x / 2 ^ c.args.b % 2) c.loop.invariant.0
 
 pub overflow_add-ones : goal.overflow_add-ones
 overflow_add-ones c =
     let args = c.args in
-    let at = c.loop-k in
-    let one = bit_le args.b (product args.p args.a (2 ^ at.k)) in
-    let few = total_le at.k 1 (λ k. bit args.b (product args.p args.a (2 ^ k))) (λ k. bit_le args.b (product args.p args.a (2 ^ k))) in
-    record { fits = omega (arith, bit_is (goal.at.overflow_add-ones c).In-loop-k, at.invariant.3, at.invariant.1) }
+    let at = c.loop in
+    let p = args.field.polynomial in
+    let few : c.degree-end.result ≤ 8 = omega (arith, c.degree-end.ensures, (polynomial p args.field.modulus).most) in
+    let one = bit_le args.b (product p args.a (2 ^ at.counter)) in
+    let sum = total_le at.counter 1 (λ k. bit args.b (product p args.a (2 ^ k))) (λ k. bit_le args.b (product p args.a (2 ^ k))) in
+    record { fits = omega (arith, bit_is (goal.at.overflow_add-ones c).In-loop, at.invariant.1, few) }
 
 pub product-column-requires : goal.product-column-requires
 product-column-requires c =
-    let poly = polynomial c.args.p c.requires.0 in
-    (c.requires.0, subst⁻¹ (λ (n : ℕ). n < 2 ^ degree c.args.p) c.loop-k.invariant.2 (times_lt c.args.p (degree c.args.p) poly.has c.args.a (2 ^ c.loop-k.k)))
+    let f = c.args.field in
+    rw c.loop.invariant.0 (times_lt f.polynomial (degree f.polynomial) (has f) c.args.a (2 ^ c.loop.counter))
 
-pub loop-k-preserved : goal.loop-k-preserved
-loop-k-preserved c =
+pub loop-preserved : goal.loop-preserved
+loop-preserved c =
     let args = c.args in
-    let at = c.loop-k in
-    let poly = polynomial args.p c.requires.0 in (
-      omega arith,
-      at.invariant.1,
-      c.product-column.ensures ∙ ap (λ (x : ℕ). product args.p x 2) at.invariant.2 ∙ next_column args.p (degree args.p) poly.has args.a at.k,
-      ap₂ ◌+◌ at.invariant.3 (bit_is (goal.at.loop-k-preserved c).In-loop-k) ∙ sym (total_step at.k (λ k. bit args.b (product args.p args.a (2 ^ k)))),
+    let at = c.loop in
+    let f = args.field in
+    let p = f.polynomial in (
+      c.product-column.ensures ∙ ap (λ (x : ℕ). product p x 2) at.invariant.0 ∙ next_column p (degree p) (has f) args.a at.counter,
+      ap₂ ◌+◌ at.invariant.1 (bit_is (goal.at.loop-preserved c).In-loop) ∙ sym (total_step at.counter (λ k. bit args.b (product p args.a (2 ^ k)))),
     )
 
 pub returns : goal.returns
 unfolding ones_in_line
 returns c =
-    let args = c.args in
-    let last : c.loop-k.k ≡ c.degree-m.result = omega arith in
-    c.loop-k.invariant.3
-    ∙ ap (λ (n : ℕ). total n (λ k. bit args.b (product args.p args.a (2 ^ k)))) (last ∙ c.degree-m.ensures)
+    let all : c.loop.counter ≡ degree c.args.field.polynomial = omega (arith, c.degree-end.ensures) in
+    rw all at c.loop.invariant.1

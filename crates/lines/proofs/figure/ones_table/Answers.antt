@@ -1,56 +1,40 @@
 -- `lines::figure::ones_table` meets its contract: after i turns the first i entries are stored. Assumes nothing.
 use mathlib.Core.Path.{◌≡◌, refl}
-use Prim.Native.Nat.{◌*◌, ◌/◌, ◌^◌, ◌<◌, zero-le}
-use native.Mathlib.Nat.{lt_of_lt_of_le}
+use Prim.Native.Nat.{◌*◌, ◌^◌, ◌≤◌}
 use native.Mathlib.Omega.{arith}
-use lib.Dec.{lit≤}
 use Rattle.algebra.specs.Matrix.{tabulate}
 use Rattle.field.specs.Polynomial.{degree}
-use Rattle.field.proofs.Degrees.{polynomial}
-use Rattle.field.proofs.Calls.{elements_most, shifted_width}
+use Rattle.field.proofs.Calls.{elements_most}
 use Rattle.lines.specs.Steps.Figures.{ones_table}
 use Rattle.lines.proofs.Filled.{filled_to_more}
 use Rattle.lines.proofs.figure.ones_table.Goals as goal
-use Rattle.lines.proofs.figure.ones_table.Goals.{In-loop-i}
+use Rattle.lines.proofs.figure.ones_table.Goals.{After-size-i-end}
 
-pub overflow_shl-end : goal.overflow_shl-end
-overflow_shl-end c = omega (arith, c.degree.ensures, (polynomial c.args.p c.requires).most)
+-- at most 256 elements
+few : (c : After-size-i-end) → c.size-i-end.result ≤ 256
+few c = rw c.size-i-end.ensures (elements_most c.args.field.polynomial c.args.field.modulus)
+
+pub overflow_mul-i-end : goal.overflow_mul-i-end
+overflow_mul-i-end c = record { fits = omega (arith, few (goal.at.overflow_mul-i-end c).After-size-i-end) }
 
 pub loop-i-init : goal.loop-i-init
 unfolding tabulate
-loop-i-init c =
-    let p = c.args.p in
-    let h = c.requires in
-    let is = shifted_width 8 p _ h (lit≤ tt) c.degree.ensures in
-    (is, omega (arith, is, elements_most p h), zero-le, refl)
-
--- the entry's element
-element : (c : In-loop-i) → c.loop-i.i / 8 < 2 ^ degree c.args.p
-element c = omega (arith, c.loop-i.invariant.0, c.loop-i-test.true)
+loop-i-init c = refl
 
 pub overflow_cast-i : goal.overflow_cast-i
-overflow_cast-i c = record { fits = lt_of_lt_of_le (element (goal.at.overflow_cast-i c).In-loop-i) (elements_most c.args.p c.requires) }
-
-pub ones_in_line-requires : goal.ones_in_line-requires
-ones_in_line-requires c =
-    (c.requires, element (goal.at.ones_in_line-requires c).In-loop-i, omega arith)
+overflow_cast-i c = record { fits = omega (arith, few (goal.at.overflow_cast-i c).After-size-i-end) }
 
 pub bounds-r-i : goal.bounds-r-i
-bounds-r-i c = omega (arith, c.loop-i.invariant.1, c.loop-i-test.true)
+bounds-r-i c = omega (arith, few (goal.at.bounds-r-i c).After-size-i-end)
 
 pub loop-i-preserved : goal.loop-i-preserved
 loop-i-preserved c =
     let at = c.loop-i in
-    let less = c.loop-i-test.true in (
-      at.invariant.0,
-      at.invariant.1,
-      omega (arith, less),
-      filled_to_more 2048 0 _ at.i at.r _ (omega (arith, at.invariant.1, less)) at.invariant.3 c.ones_in_line.ensures,
-    )
+    let most = few (goal.at.loop-i-preserved c).After-size-i-end in
+    filled_to_more 2048 0 _ at.i at.r _ (omega (arith, most)) at.invariant c.ones_in_line.ensures
 
 pub returns : goal.returns
 unfolding ones_table
 returns c =
-    let at = c.loop-i in
-    let all : at.i ≡ 8 * 2 ^ degree c.args.p = omega (arith, at.invariant.0, at.invariant.2, c.loop-i-test.false) in
-    rw all at at.invariant.3
+    let all : c.loop-i.i ≡ 8 * 2 ^ degree c.args.field.polynomial = omega (arith, c.size-i-end.ensures) in
+    rw all at c.loop-i.invariant

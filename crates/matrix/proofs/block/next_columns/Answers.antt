@@ -2,6 +2,7 @@
 use mathlib.Core.Path.{sym, ◌∙◌}
 use native.Mathlib.Nat.{not-le_of_lt}
 use native.Mathlib.Omega.{arith}
+use Rattle.matrix.specs.Steps.Choice.{line_of}
 use Rattle.matrix.proofs.Masks.{Skipped, choice_skips, skipped_any, skipped_more, skipped_next}
 use Rattle.matrix.proofs.block.next_columns.Goals as goal
 use Rattle.matrix.proofs.block.next_columns.Goals.{After-next_choice-r-in-loop-r}
@@ -10,16 +11,7 @@ pub loop-r-init : goal.loop-r-init
 loop-r-init c =
     let a = c.args in
     let pre = c.requires in
-    skipped_any a.look a.mask c.next_choice-r.result (choice_skips a.mask c.next_choice-r.result pre.0 pre.1 c.next_choice-r.ensures)
-
-pub returns-then-is_looked_at : goal.returns-then-is_looked_at
-returns-then-is_looked_at c =
-    let a = c.args in
-    let loop = c.loop-r in
-    skipped_next a.look a.mask loop.r loop.invariant (λ l. sym c.is_looked_at.ensures ∙ c.if-is_looked_at.true)
-
-pub next_choice-r-requires-in-loop-r : goal.next_choice-r-requires-in-loop-r
-next_choice-r-requires-in-loop-r c = (omega (arith, c.loop-r.invariant.later), c.loop-r-test.true)
+    skipped_any (line_of a.look) a.mask c.next_choice-r.result (choice_skips a.mask c.next_choice-r.result pre.0 pre.1 c.next_choice-r.ensures)
 
 -- the next mask of as many ones
 next : (c : After-next_choice-r-in-loop-r) → Skipped 0 c.loop-r.r c.next_choice-r-in-loop-r.result
@@ -34,11 +26,17 @@ pub loop-r-preserved : goal.loop-r-preserved
 loop-r-preserved c =
     let a = c.args in
     let loop = c.loop-r in
-    skipped_more a.look a.mask loop.r c.next_choice-r-in-loop-r.result loop.invariant c.loop-r-test.true
-    (sym c.is_looked_at.ensures ∙ c.if-is_looked_at.false) (next (goal.at.loop-r-preserved c).After-next_choice-r-in-loop-r)
+    skipped_more (line_of a.look) a.mask loop.r c.next_choice-r-in-loop-r.result loop.invariant c.loop-r-test.true
+    (sym c.is_looked_at.ensures ∙ c.if-not-is_looked_at.true) (next (goal.at.loop-r-preserved c).After-next_choice-r-in-loop-r)
 
-pub returns : goal.returns
-returns c =
+pub returns-else-not-is_looked_at : goal.returns-else-not-is_looked_at
+returns-else-not-is_looked_at c =
     let a = c.args in
     let loop = c.loop-r in
-    skipped_next a.look a.mask loop.r loop.invariant (λ l. absurd (not-le_of_lt l c.loop-r-test.false))
+    skipped_next (line_of a.look) a.mask loop.r loop.invariant (λ l. sym c.is_looked_at.ensures ∙ c.if-not-is_looked_at.false)
+
+pub returns-after-loop-r : goal.returns-after-loop-r
+returns-after-loop-r c =
+    let a = c.args in
+    let loop = c.loop-r in
+    skipped_next (line_of a.look) a.mask loop.r loop.invariant (λ l. absurd (not-le_of_lt l c.loop-r-test.false))

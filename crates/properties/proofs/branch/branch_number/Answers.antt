@@ -18,17 +18,15 @@ use Rattle.properties.proofs.branch.branch_number.Goals.{In-loop-columns}
 
 pub loop-columns-init : goal.loop-columns-init
 loop-columns-init c =
-    let args = c.args in (
-      omega (arith, shifted args.n c.requires.2, pow_pos args.n),
-      add-one args.n ∙ sym (pairs_one (numbers args.p) (elements args.p) args.n (entry args.m) (suc args.n)),
-    )
+    let args = c.args in
+    add-one args.n ∙ sym (pairs_one (numbers args.table.now.polynomial) (elements args.table.now.polynomial) args.n (entry args.m) (suc args.n))
 
 -- the mask is one of the order's
 inside : (c : In-loop-columns) → c.loop-columns.columns < 2 ^ c.args.n
-inside c = rw (shifted c.args.n c.requires.2) at c.loop-columns-test.true
+inside c = rw (shifted c.args.n c.requires.1) at c.loop-columns-test.true
 
 few : (c : In-loop-columns) → ones c.loop-columns.columns ≤ 8
-few c = le_trans (ones-le c.args.n c.loop-columns.columns (inside c)) c.requires.2
+few c = le_trans (ones-le c.args.n c.loop-columns.columns (inside c)) c.requires.1
 
 -- as many columns as it has ones
 sized : (c : In-loop-columns) → ones c.loop-columns.columns ≡ length (chosen c.args.n c.loop-columns.columns)
@@ -39,17 +37,15 @@ overflow_cast-c c = record { fits = omega (arith, few (goal.at.overflow_cast-c c
 
 pub chosen_columns-narrow-requires : goal.chosen_columns-narrow-requires
 chosen_columns-narrow-requires c =
-    (c.requires.2, mask_fits c.args.n c.loop-columns.columns c.requires.2 (inside (goal.at.chosen_columns-narrow-requires c).In-loop-columns))
+    (c.requires.1, mask_fits c.args.n c.loop-columns.columns c.requires.1 (inside (goal.at.chosen_columns-narrow-requires c).In-loop-columns))
 
 pub over_lines-best-requires : goal.over_lines-best-requires
 over_lines-best-requires c =
     let args = c.args in (
-      c.requires.0,
-      c.requires.2,
+      c.requires.1,
       few (goal.at.over_lines-best-requires c).In-loop-columns,
-      columns_in_field args.p args.n c.loop-columns.columns args.m c.chosen_columns-narrow.result c.requires.2 (inside (goal.at.over_lines-best-requires c).In-loop-columns)
-          c.chosen_columns-narrow.ensures c.requires.3,
-      c.requires.4,
+      columns_in_field args.table.now.polynomial args.n c.loop-columns.columns args.m c.chosen_columns-narrow.result c.requires.1 (inside (goal.at.over_lines-best-requires c).In-loop-columns)
+          c.chosen_columns-narrow.ensures c.requires.2,
     )
 
 pub loop-columns-preserved : goal.loop-columns-preserved
@@ -57,19 +53,17 @@ loop-columns-preserved c =
     let args = c.args in
     let loop = c.loop-columns in
     let n = args.n in
-    let chosen_is = column_chosen n loop.columns args.m c.chosen_columns-narrow.result c.requires.2 (inside (goal.at.loop-columns-preserved c).In-loop-columns) n in (
-      omega arith,
-      pairs_more (numbers args.p) (elements args.p) args.n (entry args.m) (entry c.chosen_columns-narrow.result) loop.columns
-          (ones loop.columns) (suc args.n) loop.best c.over_lines-best.result
-          (sized (goal.at.loop-columns-preserved c).In-loop-columns) (chosen_is c.chosen_columns-narrow.ensures) loop.invariant.1 c.over_lines-best.ensures,
-    )
+    let chosen_is = column_chosen n loop.columns args.m c.chosen_columns-narrow.result c.requires.1 (inside (goal.at.loop-columns-preserved c).In-loop-columns) n in
+    pairs_more (numbers args.table.now.polynomial) (elements args.table.now.polynomial) args.n (entry args.m) (entry c.chosen_columns-narrow.result) loop.columns
+    (ones loop.columns) (suc args.n) loop.best c.over_lines-best.result
+    (sized (goal.at.loop-columns-preserved c).In-loop-columns) (chosen_is c.chosen_columns-narrow.ensures) loop.invariant c.over_lines-best.ensures
 
 pub returns : goal.returns
 unfolding InField
 returns c =
     let args = c.args in
     let loop = c.loop-columns in
-    let last : loop.columns ≡ 2 ^ args.n = omega (arith, shifted args.n c.requires.2) in
-    loop.invariant.1
-    ∙ ap (λ (k : ℕ). over_pairs (numbers args.p) (elements args.p) args.n (entry args.m) k (suc args.n)) last
-    ∙ pairs_branch args.p c.requires.0 args.n (entry args.m) c.requires.3 c.requires.1
+    let last : loop.columns ≡ 2 ^ args.n = omega (arith, shifted args.n c.requires.1, pow_pos args.n) in
+    loop.invariant
+    ∙ ap (λ (k : ℕ). over_pairs (numbers args.table.now.polynomial) (elements args.table.now.polynomial) args.n (entry args.m) k (suc args.n)) last
+    ∙ pairs_branch args.table.now.polynomial args.table.now.modulus args.n (entry args.m) c.requires.2 c.requires.0

@@ -1,46 +1,27 @@
--- `properties::branch::cleared_line` meets its contract: the entries before place j are those of the cleared line. Assumes nothing.
-use mathlib.Core.Path.{◌≡◌, refl, ap, ap₂, ◌∙◌}
-use Prim.Native.Nat.{ℕ, ◌-◌}
+-- `properties::branch::cleared_line` meets its contract. Assumes nothing.
+use mathlib.Core.Path.{◌≡◌}
 use native.Mathlib.Numerals.{add-one}
 use native.Mathlib.Omega.{arith}
-use lib.Bits.{bit_xor}
-use lib.ListN.{get_or}
-use Rattle.algebra.specs.Matrix.{tabulate}
+use Rattle.std.proofs.Common.{rules, ◌+◌, ◌-◌, get_or}
+use Rattle.std.proofs.iter.Serving.{serving}
 use Rattle.field.specs.Polynomial.{◌⊕◌, product}
 use Rattle.lines.specs.Numbers.{WordsInField}
-use Rattle.lines.proofs.Filled.{filled_more}
-use Rattle.properties.proofs.branch.cleared_line.Invariants.{entries}
+use Rattle.lines.proofs.Filled.{filled_of}
 use Rattle.properties.proofs.branch.cleared_line.Goals as goal
 
-pub loop-j-init : goal.loop-j-init
-unfolding tabulate
-loop-j-init c = (omega arith, refl)
-
-pub times-requires : goal.times-requires
+pub filled-requires : goal.filled-requires
 unfolding WordsInField
-times-requires c =
-    let pre = c.requires in
-    (pre.3 0 (omega arith), pre.5)
-
-pub times-requires-in-loop-j : goal.times-requires-in-loop-j
-unfolding WordsInField
-times-requires-in-loop-j c =
-    let pre = c.requires in
-    (pre.4 0 (omega arith), pre.5)
-
-pub loop-j-preserved : goal.loop-j-preserved
-unfolding ◌⊕◌
-loop-j-preserved c =
-    let args = c.args in
-    let loop = c.loop-j in (
-      omega arith,
-      filled_more 0 (entries args.p args.first args.line) loop.j loop.r (bit_xor c.times.result c.times-in-loop-j.result) (omega arith) loop.invariant.1
-          (ap₂ bit_xor
-          (c.times.ensures ∙ ap (λ (k : ℕ). product args.p (get_or args.first 0 0) (get_or args.line k 0)) (add-one loop.j))
-          (c.times-in-loop-j.ensures ∙ ap (λ (k : ℕ). product args.p (get_or args.line 0 0) (get_or args.first k 0)) (add-one loop.j))),
-    )
+filled-requires c =
+    let a = c.requires.2 0 (omega arith) in
+    let b = c.requires.3 0 (omega arith) in
+    grind serving
 
 pub returns : goal.returns
+unfolding ◌⊕◌
 returns c =
-    let last : c.loop-j.j ≡ c.args.c - 1 = omega arith in
-    rw last at c.loop-j.invariant.1
+    filled_of 0 _ (c.args.c - 1) c.filled.result 0 (omega arith) (search rules) (λ j l.
+    let p = c.args.table.now.polynomial in
+    let h = c.filled.ensures.first j l in
+    let e : get_or c.filled.result j 0 ≡ (product p (get_or c.args.first 0 0) (get_or c.args.line (j + 1) 0) ⊕ product p (get_or c.args.line 0 0) (get_or c.args.first (j + 1) 0)) = search rules in
+    rw add-one at e)
+    (λ j l h. c.filled.ensures.behind j l)

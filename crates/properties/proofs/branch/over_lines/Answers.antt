@@ -9,25 +9,25 @@ use Rattle.properties.proofs.Trials.{lines_more}
 use Rattle.properties.proofs.branch.over_lines.Goals as goal
 
 pub loop-lines-init : goal.loop-lines-init
-loop-lines-init c = (omega arith, unfold over_lines in refl)
+unfolding over_lines
+loop-lines-init c = refl
 
 pub tried-least-requires : goal.tried-least-requires
 tried-least-requires c =
     let pre = c.requires in
-    (pre.0, pre.1, pre.2, pre.3, rw (shifted c.args.n pre.1) at c.loop-lines-test.true, pre.4)
+    (pre.0, pre.1, pre.2, rw (shifted c.args.n pre.0) at c.loop-lines-test.true)
 
 pub loop-lines-preserved : goal.loop-lines-preserved
 loop-lines-preserved c =
     let args = c.args in
-    let loop = c.loop-lines in (
-      omega arith,
-      lines_more (numbers args.p) (elements args.p) args.n args.c (entry args.narrow) loop.lines args.best loop.least c.tried-least.result
-          loop.invariant.1 c.tried-least.ensures,
-    )
+    let p = args.table.now.polynomial in
+    let loop = c.loop-lines in
+    lines_more (numbers p) (elements p) args.n args.c (entry args.narrow) loop.lines args.best loop.least c.tried-least.result loop.invariant c.tried-least.ensures
 
 pub returns : goal.returns
 returns c =
     let args = c.args in
+    let p = args.table.now.polynomial in
     let loop = c.loop-lines in
-    let last : loop.lines ≡ 2 ^ args.n = omega (arith, shifted args.n c.requires.1) in
-    loop.invariant.1 ∙ ap (λ (k : ℕ). over_lines (numbers args.p) (elements args.p) args.n args.c (entry args.narrow) k args.best) last
+    let last : loop.lines ≡ 2 ^ args.n = omega (arith, shifted args.n c.requires.0) in
+    loop.invariant ∙ ap (λ (k : ℕ). over_lines (numbers p) (elements p) args.n args.c (entry args.narrow) k args.best) last

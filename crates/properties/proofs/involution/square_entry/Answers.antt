@@ -10,26 +10,24 @@ use Rattle.properties.specs.Steps.Identity.{square_entry}
 use Rattle.properties.proofs.involution.square_entry.Goals as goal
 
 pub loop-k-init : goal.loop-k-init
-loop-k-init c = (omega arith, unfold sum in refl)
+unfolding sum
+loop-k-init c = refl
 
-pub product-r-requires : goal.product-r-requires
+pub product-sum-requires : goal.product-sum-requires
 unfolding InField
-product-r-requires c =
-    (c.requires.0, c.requires.4 c.args.i c.loop-k.k c.requires.2 (omega arith))
+product-sum-requires c = c.requires.3 c.args.i c.loop-k.k c.requires.1 (omega arith)
 
 pub loop-k-preserved : goal.loop-k-preserved
 loop-k-preserved c =
     let args = c.args in
-    let loop = c.loop-k in (
-      omega arith,
-      sum_more args.p loop.k (λ l. product args.p (entry args.m args.i l) (entry args.m l args.j))
-          loop.r c.product-r.result loop.invariant.1 c.product-r.ensures,
-    )
+    let loop = c.loop-k in
+    let p = args.field.polynomial in
+    sum_more p loop.k (λ l. product p (entry args.m args.i l) (entry args.m l args.j)) loop.sum c.product-sum.result loop.invariant c.product-sum.ensures
 
 pub returns : goal.returns
 unfolding square_entry
 returns c =
     let args = c.args in
+    let p = args.field.polynomial in
     let last : c.loop-k.k ≡ args.n = omega arith in
-    c.loop-k.invariant.1
-    ∙ ap (λ (k : ℕ). sum (numbers args.p) k (λ l. product args.p (entry args.m args.i l) (entry args.m l args.j))) last
+    c.loop-k.invariant ∙ ap (λ (k : ℕ). sum (numbers p) k (λ l. product p (entry args.m args.i l) (entry args.m l args.j))) last

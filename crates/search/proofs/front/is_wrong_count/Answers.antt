@@ -1,17 +1,21 @@
 -- `search::front::is_wrong_count` meets its contract. Assumes nothing.
-use mathlib.Core.Path.{sym, ap, ◌∙◌}
-use Rattle.rows.specs.declared.Family.{Family}
-use Rattle.search.specs.Answer.{is_wrong_count_for}
-use borrow.Author.Rules.{rules}
+use Rattle.std.proofs.Common.{rules}
+use borrow.Author.Tests.{tests}
+use Rattle.search.specs.Answer.{is_wrong_search_count, is_wrong_circulant_count}
 use Rattle.search.proofs.front.is_wrong_count.Goals as goal
 
-pub enum_told-1 : goal.enum_told-1
-enum_told-1 c = search rules
+pub returns-then-count-gt255 : goal.returns-then-count-gt255
+unfolding is_wrong_search_count
+returns-then-count-gt255 c = rw c.in-Hadamard.is (search (rules, tests))
 
-pub returns-in-Hadamard : goal.returns-in-Hadamard
-returns-in-Hadamard c =
-    c.is_wrong_hadamard_count.ensures ∙ ap (λ (f : Family). is_wrong_count_for f c.args.n c.args.count) (sym c.in-Hadamard.is)
+pub returns-then-n-eq8 : goal.returns-then-n-eq8
+unfolding is_wrong_search_count
+returns-then-n-eq8 c = rw c.in-Hadamard.is (search (rules, tests))
+
+pub returns-else-n-eq8 : goal.returns-else-n-eq8
+unfolding is_wrong_search_count
+returns-else-n-eq8 c = rw c.in-Hadamard.is (search (rules, tests))
 
 pub returns-in-Circulant : goal.returns-in-Circulant
-returns-in-Circulant c =
-    c.is_wrong_circulant_count.ensures ∙ ap (λ (f : Family). is_wrong_count_for f c.args.n c.args.count) (sym c.in-Circulant.is)
+unfolding is_wrong_circulant_count
+returns-in-Circulant c = rw c.in-Circulant.is (search (rules, tests))

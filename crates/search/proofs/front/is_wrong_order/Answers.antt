@@ -1,17 +1,13 @@
 -- `search::front::is_wrong_order` meets its contract. Assumes nothing.
-use mathlib.Core.Path.{sym, ap, ◌∙◌}
-use Rattle.rows.specs.declared.Family.{Family}
-use Rattle.search.specs.Answer.{is_wrong_order_for}
-use borrow.Author.Rules.{rules}
+use Rattle.std.proofs.Common.{rules}
+use borrow.Author.Tests.{tests}
+use Rattle.search.specs.Answer.{is_wrong_search_order, is_wrong_circulant_order}
 use Rattle.search.proofs.front.is_wrong_order.Goals as goal
 
-pub enum_told-1 : goal.enum_told-1
-enum_told-1 c = search rules
-
-pub returns-in-Hadamard : goal.returns-in-Hadamard
-returns-in-Hadamard c =
-    c.is_wrong_hadamard_order.ensures ∙ ap (λ (f : Family). is_wrong_order_for f c.args.n) (sym c.in-Hadamard.is)
+pub returns-after-matches : goal.returns-after-matches
+unfolding is_wrong_search_order
+returns-after-matches c = rw c.in-Hadamard.is (search (rules, tests))
 
 pub returns-in-Circulant : goal.returns-in-Circulant
-returns-in-Circulant c =
-    c.is_wrong_circulant_order.ensures ∙ ap (λ (f : Family). is_wrong_order_for f c.args.n) (sym c.in-Circulant.is)
+unfolding is_wrong_circulant_order
+returns-in-Circulant c = rw c.in-Circulant.is (search (rules, tests))

@@ -1,19 +1,18 @@
 -- `walk::next::below_next` meets its contract. Assumes nothing.
+use mathlib.Core.Path.{sym, ◌∙◌}
 use native.Mathlib.Omega.{arith}
 use Rattle.walk.proofs.Ranks.{ascend_sorted, next_letter, next_other}
 use Rattle.walk.proofs.next.below_next.Goals as goal
+use Rattle.walk.proofs.next.below_next.Goals.{else-i-letters-via-then-i-letters+else-from-a, else-i-letters-via-else-i-letters}
 
-pub overflow_cast-letters : goal.overflow_cast-letters
-overflow_cast-letters c = omega (arith, c.shared_slice_known-1.given c.args.i)
+pub returns-then-from-a : goal.returns-then-from-a
+returns-then-from-a c =
+    next_letter (ascend_sorted c.args.letters.now c.requires.0) c.args.a c.args.i c.requires.1 c.if-i-letters.true (sym c.from.ensures ∙ c.if-from-a.true)
 
-pub returns-then-letters-i : goal.returns-then-letters-i
-returns-then-letters-i c =
-    next_letter (ascend_sorted c.args.letters.now c.requires.0) c.args.a c.args.i c.requires.1 (omega arith) c.if-letters-i.true
-
-pub returns-else-letters-i : goal.returns-else-letters-i
-returns-else-letters-i c =
-    next_other (ascend_sorted c.args.letters.now c.requires.0) c.args.a c.args.i c.requires.1 (λ h e. c.if-letters-i.false e)
-
-pub returns-else-i-letters : goal.returns-else-i-letters
-returns-else-i-letters c =
-    next_other (ascend_sorted c.args.letters.now c.requires.0) c.args.a c.args.i c.requires.1 (λ h e. omega arith)
+pub returns : goal.returns
+returns c =
+    next_other (ascend_sorted c.args.letters.now c.requires.0) c.args.a c.args.i c.requires.1
+    (λ h e. elim c.else-i-letters.branch [
+      | else-i-letters-via-then-i-letters+else-from-a w ↦ w.if-from-a.false (w.from.ensures ∙ e)
+      | else-i-letters-via-else-i-letters w ↦ absurd (omega (arith, w.if-i-letters.false))
+    ])

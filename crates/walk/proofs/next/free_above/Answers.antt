@@ -1,37 +1,26 @@
--- `walk::next::free_above` meets its contract: the letters before place i are not above a, or used. Assumes nothing.
-use mathlib.Core.Path.{sym, ◌∙◌, ap}
-use mathlib.Core.Bool.{true≢false, not}
-use Prim.Native.Nat.{◌<◌}
+-- `walk::next::free_above` meets its contract. Assumes nothing.
+use mathlib.Core.Path.{ap, ◌∙◌}
+use Prim.Native.Nat.{ℕ, ◌<◌, ◌≤◌}
 use native.Mathlib.Omega.{arith}
-use lib.ListN.{length, take}
-use borrow.Author.Tests.{not-true, not-false}
-use Rattle.rows.proofs.Rows.{member_mem, get_d_mem}
-use Rattle.walk.proofs.Ranks.{rank_at, passed_start, passed_turn, passed_all, passed_free}
-use borrow.Author.Rules.{rules}
+use lib.ListN.{length, get_or}
+use Rattle.walk.proofs.Ranks.{rank_inside, found_at}
 use Rattle.walk.proofs.next.free_above.Goals as goal
+use Rattle.walk.proofs.next.free_above.Goals.{After-from-rank}
 
-pub loop-i-init : goal.loop-i-init
-loop-i-init c =
-    let byte : c.args.a < 256 = search rules in
-    passed_start c.requires.1 (take c.args.level c.args.row) c.args.a c.place-i.result (c.place-i.ensures ∙ rank_at c.requires.1 c.args.a byte)
+-- the rank is a place in the list, or its end
+inside : (c : After-from-rank) → c.from-rank.result ≤ length c.args.letters.now
+inside c =
+    let byte : c.args.a < 256 = omega arith in
+    rw (c.from-rank.ensures, c.from.ensures) (rank_inside c.requires c.args.a byte)
 
-pub returns-then-not-stands : goal.returns-then-not-stands
-returns-then-not-stands c =
-    let args = c.args in
-    let i = c.loop-i.i in
-    let inside : i < length args.letters.now = c.loop-i-test.true in
-    let new = not-true _ (ap not c.if-not-stands.true) in
-    passed_free c.requires.1 (take args.level args.row) args.a i c.loop-i.invariant inside (get_d_mem args.letters.now i 0 inside)
-    (λ m. true≢false (sym ((member_mem _ _).1 m) ∙ sym c.stands.ensures ∙ new))
+pub slice_bounds-first_free-start : goal.slice_bounds-first_free-start
+slice_bounds-first_free-start c = inside c
 
-pub loop-i-smaller : goal.loop-i-smaller
-loop-i-smaller c = omega arith
-
-pub loop-i-preserved : goal.loop-i-preserved
-loop-i-preserved c =
-    passed_turn c.requires.1 (take c.args.level c.args.row) c.args.a c.loop-i.i c.loop-i.invariant
-    ((member_mem _ _).0 (sym c.stands.ensures ∙ not-false _ (ap not c.if-not-stands.false)))
+pub slice_bounds-first_free-count : goal.slice_bounds-first_free-count
+slice_bounds-first_free-count c = inside c
 
 pub returns : goal.returns
 returns c =
-    passed_all c.requires.1 (take c.args.level c.args.row) c.args.a c.loop-i.i c.loop-i.invariant (omega arith)
+    let byte : c.args.a < 256 = omega arith in
+    found_at c.requires c.args.used.now c.args.a c.from-rank.result byte
+    (c.from-rank.ensures ∙ ap (λ (k : ℕ). get_or c.args.ranks.now k 0) c.from.ensures) c.first_free.result c.first_free.ensures

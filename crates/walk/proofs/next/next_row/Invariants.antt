@@ -1,12 +1,8 @@
 -- `walk::next::next_row` meets its contract: the entries from place i on cannot be raised. Assumes nothing.
 use mathlib.Core.Path.{◌≡◌}
-use Prim.Native.Nat.{◌≤◌}
 use lib.ListN.{take}
 use Rattle.walk.specs.Steps.Successors.{raised_below, row_behind}
 use Rattle.walk.proofs.next.next_row.Given as goal
 
 abbrev pub invariant-loop-i : goal.invariant-loop-i
-invariant-loop-i l = (l.i ≤ l.n) × (raised_below l.letters l.n (take l.n l.row) l.i ≡ row_behind l.letters l.n (take l.n l.row))
-
-abbrev pub decreases-loop-i : goal.decreases-loop-i
-decreases-loop-i l = l.i
+invariant-loop-i l = raised_below l.letters l.n (take l.n l.row) l.i ≡ row_behind l.letters l.n (take l.n l.row)

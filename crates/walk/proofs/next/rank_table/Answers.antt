@@ -1,7 +1,7 @@
 -- `walk::next::rank_table` meets its contract: after a turns the first a entries are stored. Assumes nothing.
 use mathlib.Core.Path.{◌≡◌, refl, sym, ap, ◌∙◌}
 use mathlib.Core.List.{append-nil}
-use Prim.Native.Nat.{suc, ◌<◌, zero-le}
+use Prim.Native.Nat.{suc}
 use native.Mathlib.Omega.{arith}
 use native.Mathlib.Numerals.{add-one}
 use Rattle.algebra.specs.Matrix.{tabulate}
@@ -13,7 +13,7 @@ use Rattle.walk.proofs.next.rank_table.Goals as goal
 
 pub loop-a-init : goal.loop-a-init
 unfolding tabulate
-loop-a-init c = (zero-le, sym (below_none c.args.letters.now), refl)
+loop-a-init c = (sym (below_none c.args.letters.now), refl)
 
 pub overflow_cast-r : goal.overflow_cast-r
 overflow_cast-r c =
@@ -23,13 +23,14 @@ overflow_cast-r c =
 pub loop-a-preserved : goal.loop-a-preserved
 loop-a-preserved c =
     let letters = c.args.letters.now in
-    let at = c.loop-a in
-    let here : at.a < 256 = c.loop-a-test.true in
-    (omega arith, c.below_next-i.ensures ∙ ap (count_below letters) (sym (add-one at.a)), filled_to_more 256 0 (λ a. count_below letters (suc a)) at.a at.r c.below_next-i.result here at.invariant.2 c.below_next-i.ensures)
+    let at = c.loop-a in (
+      c.below_next-i.ensures ∙ ap (count_below letters) (sym (add-one at.a)),
+      filled_to_more 256 0 (λ a. count_below letters (suc a)) at.a at.r c.below_next-i.result c.loop-a-test.true at.invariant.1 c.below_next-i.ensures,
+    )
 
 pub returns : goal.returns
 unfolding rank_table
 returns c =
     let letters = c.args.letters.now in
     let all : c.loop-a.a ≡ 256 = omega arith in
-    (c.loop-a.invariant.2 ∙ ap (filled_to 256 0 (λ a. count_below letters (suc a))) all ∙ append-nil (tabulate 256 (λ a. count_below letters (suc a))))
+    (c.loop-a.invariant.1 ∙ ap (filled_to 256 0 (λ a. count_below letters (suc a))) all ∙ append-nil (tabulate 256 (λ a. count_below letters (suc a))))
