@@ -7,7 +7,7 @@ use refusal::Refusal;
 use rows::Family;
 
 // What a request asks for.
-#[derive(Clone, Copy)]
+#[derive(Clone, Copy, Debug, PartialEq, Eq)]
 pub enum Kind {
     Search(Family),
     Matrix(Asked),

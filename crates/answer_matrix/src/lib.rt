@@ -5,7 +5,6 @@ ghost use Rattle.std.specs.Prelude.{◌≡◌, ℕ, ◌+◌, ◌*◌, ◌≤◌,
 ghost use Rattle.refusal.specs.Refusals.{number_of, first_number, answer};
 ghost use Rattle.lines.specs.Numbers.{entry};
 ghost use Rattle.lines.specs.Steps.Blocks.{framed, filled};
-ghost use Rattle.checks.specs.Answers.{is_wrong_order};
 ghost use Rattle.rows.specs.Candidates.{some_too_large};
 ghost use Rattle.text.specs.Reading.{value_at, values_from};
 ghost use Rattle.reply.specs.Due.{request, check_faults, check_lines, due_to};
@@ -62,20 +61,13 @@ pub fn matrix_of(part: &[u8], n: usize) -> [[u8; 8]; 8]
     m
 }
 
-// Whether the order is not from 1 to 8.
-fn wrong_order(n: u32) -> bool
-    ensures { result ≡ is_wrong_order n }
-{
-    !(1..=8).contains(&n)
-}
-
 // The matrix of a request, or what the request is refused for.
 fn matrix_asked(part: &[u8], header: Header) -> Result<Matrix, Refusal>
     ensures { GivesMatrix header.polynomial header.order (values_from part.now 0 header.count) result }
 {
     let field = Field::try_from(header.polynomial)?;
     let n = header.order;
-    if wrong_order(n) {
+    if checks::is_wrong_order(n) {
         return Err(Refusal::OrderRange);
     }
     if header.count != n * n {

@@ -20,7 +20,7 @@ use refusal::Refusal;
 // ---- faults
 
 // Whether the order is not from 1 to 8.
-fn is_wrong_order(n: u32) -> bool
+pub fn is_wrong_order(n: u32) -> bool
     ensures { result ≡ is_wrong_order n }
 {
     !matches!(n, 1..=8)

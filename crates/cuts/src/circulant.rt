@@ -68,7 +68,7 @@ fn pairs_through(table: &Table, n: usize, row: [u8; 8], d: usize, x: usize) -> b
 }
 
 // Whether all pairs pass that the entry at place d completes.
-pub fn pairs_pass(table: &Table, n: usize, row: [u8; 8], d: usize) -> bool
+pub(crate) fn pairs_pass(table: &Table, n: usize, row: [u8; 8], d: usize) -> bool
     requires { (d < n) × (n ≤ 8) × WordsInField table.now.polynomial (suc d) row }
     ensures { result ≡ pairs_pass table.now.polynomial n row d }
 {

@@ -9,6 +9,7 @@ ghost use Rattle.cuts.specs.Steps.Families.{OrderOf};
 ghost use Rattle.lightest.specs.Steps.Prefix.{kept};
 
 use field::table::{Field, Table};
+use lines::figure::{Ones, ones_table};
 use prefix::{Prefix, Search};
 use rows::Family;
 
@@ -33,12 +34,16 @@ pub fn lightest_row(family: Family, field: Field, n: usize, candidates: &[u32]) 
     let known = letters::letters_of(&counts, field.size());
     let letters = known.as_slice();
     let least = u32::from(letters::least_count(&counts, letters));
-    let ones = lines::figure::ones_table(field);
+    let all_ones = ones_table(field);
     let mut products = [0u8; 65536];
     field.fill_products(&mut products);
     let table = Table {
         polynomial: field.polynomial,
         products: &products,
+    };
+    let ones = Ones {
+        polynomial: field.polynomial,
+        ones: &all_ones,
     };
     let search = Search {
         family,
@@ -47,7 +52,7 @@ pub fn lightest_row(family: Family, field: Field, n: usize, candidates: &[u32]) 
         letters,
         counts: &counts,
         least,
-        ones: &ones,
+        ones,
     };
     let start = Prefix {
         row: [0; 8],

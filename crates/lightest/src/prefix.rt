@@ -1,7 +1,6 @@
 // The walk over the rows, entry by entry: each prefix is extended by the letters that can still lead to a lighter row.
 
 ghost use Rattle.std.specs.Prelude.{◌≡◌, ◌^◌, ◌<◌, ◌≤◌, ℕ};
-ghost use Rattle.lines.specs.Steps.Figures.{ones_table};
 ghost use Rattle.cuts.specs.Steps.Families.{cuts_of};
 ghost use Rattle.lightest.specs.Steps.Prefix.{is_heavier, Brief, brief_prop};
 
@@ -14,16 +13,16 @@ use rows::Family;
 // What does not change during a search: what is searched for, the letters, which are nonzero elements, with their table of counts and the least
 // of these, and the table of the ones of all elements.
 #[derive(Clone, Copy)]
-pub struct Search<'t, 'a> {
+pub struct Search<'t, 'o, 'a> {
     pub family: Family,
     pub order: usize,
     pub table: Table<'t>,
     pub letters: &'a [u8],
     pub counts: &'a [u8; 256],
     pub least: u32,
-    pub ones: &'a [u8; 2048],
+    pub ones: Ones<'o>,
     ghost brief: { Brief (cuts_of family table.polynomial order) table.polynomial order letters.now counts.now least } by { brief_prop family table.polynomial order letters.now counts.now least },
-    ghost ones_hold: { ones.now ≡ ones_table table.polynomial },
+    ghost same_field: { ones.polynomial ≡ table.polynomial },
 }
 
 // The first entries of a row, as many as the level says: the row with zeros behind them, and the sum of their counts.
@@ -41,7 +40,7 @@ fn is_heavier(bound: u32, best: Option<Best>) -> bool
     best.is_some_and(|kept| kept.count < bound)
 }
 
-impl<'t, 'a> Search<'t, 'a> {
+impl<'t, 'o, 'a> Search<'t, 'o, 'a> {
     ghost use Rattle.std.specs.Prelude.{◌≡◌, true, cond, ◌++◌, ◌∷◌, [], ◌+◌, ◌-◌, ◌≤◌, get_or, take};
     ghost use Rattle.lines.specs.Numbers.{WordsInField};
     ghost use Rattle.lines.specs.Steps.Figures.{CountsOf, least_depth};
@@ -78,11 +77,10 @@ impl<'t, 'a> Search<'t, 'a> {
         if kept.count != bound {
             return kept.count < bound;
         }
-        let ones = Ones {
-            polynomial: self.table.polynomial,
-            ones: self.ones,
-        };
-        kept.depth <= ones.least_depth(self.counts, at.row, at.level, self.order, bound)
+        let depth = self
+            .ones
+            .least_depth(self.counts, at.row, at.level, self.order, bound);
+        kept.depth <= depth
     }
 
     // The row is kept, with what its figure tells, where it is good.
@@ -91,11 +89,7 @@ impl<'t, 'a> Search<'t, 'a> {
         ensures { let s = self.now in let p = s.table.polynomial in let n = s.order in best.new ≡ kept p n (cond (is_good (shape_of s.family) p n (take n row)) (found (take n row)) (best_as n best.old)) }
     {
         if cuts::is_good(self.family, &self.table, self.order, row) {
-            let ones = Ones {
-                polynomial: self.table.polynomial,
-                ones: self.ones,
-            };
-            let figure = ones.line_figure(self.counts, row, self.order);
+            let figure = self.ones.line_figure(self.counts, row, self.order);
             *best = Some(Best {
                 row,
                 depth: figure.depth(),

@@ -2,7 +2,7 @@
 #![tactic(auto)]
 
 // The matrices that are searched for: Hadamard involutions, or circulant matrices.
-#[derive(Clone, Copy)]
+#[derive(Clone, Copy, Debug, PartialEq, Eq)]
 pub enum Family {
     Hadamard,
     Circulant,

@@ -1,6 +1,9 @@
 -- `lightest::prefix::Search::is_heavy` meets its contract. Assumes nothing.
 use mathlib.Core.Path.{sym, ap, ◌∙◌}
+use Prim.Native.Nat.{ℕ}
 use lib.Dec.{leb}
+use lib.ListN.{get_or}
+use Rattle.lines.specs.Steps.Figures.{least_depth}
 use Rattle.lightest.proofs.Prefixes.{heavy_none, heavy_counts, heavy_depths}
 use Rattle.lightest.proofs.prefix.Search.is_heavy.Goals as goal
 
@@ -12,4 +15,6 @@ returns-then-kept-bound c = sym (heavy_counts c.args.best _ _ c.in-Some.kept c.i
 
 pub returns : goal.returns
 returns c =
-    ap (leb c.in-Some.kept.depth) c.least_depth.ensures ∙ sym (heavy_depths c.args.best _ _ c.in-Some.kept c.in-Some.is c.if-kept-bound.false)
+    let s = c.args.self.now in
+    let told = c.least_depth-depth.ensures ∙ ap (λ (p : ℕ). least_depth p s.order (λ j. get_or c.args.at.row j 0) c.args.at.level c.args.bound) s.same_field in
+    ap (leb c.in-Some.kept.depth) told ∙ sym (heavy_depths c.args.best _ _ c.in-Some.kept c.in-Some.is c.if-kept-bound.false)
