@@ -1,6 +1,7 @@
 -- The kinds of requests as the code names them. Nobody need believe these: `answer_kind` is proved by them of the table of kinds. Assumes nothing.
-use Rattle.std.specs.Prelude.{◌≡◌, ℕ, [], Result, MatchResult}
+use Rattle.std.specs.Prelude.{◌≡◌, ◌≤◌, ℕ, [], Result, MatchResult}
 use Rattle.refusal.specs.declared.Refusal.{Refusal}
+use Rattle.refusal.specs.declared.Refusal.TheVariants as refusals
 use Rattle.refusal.specs.Refusals.{number_of, answer}
 use Rattle.reply.specs.Due as due
 use Rattle.answer_matrix.specs.Steps.Asked.{matrix_kind}
@@ -14,8 +15,11 @@ kind_named (Matrix asked) = matrix_kind asked
 kind_named Survey = due.survey
 kind_named Walk = due.walk
 
--- the kind of a number; to a number that no kind has 2 is due, whatever the request
+-- the kind of a number from 1 to 6; any other number is refused for its kind, which is due to it whatever the request
 abbrev pub GivesKind : ℕ → Result Kind Refusal → Type 0
 GivesKind number result =
     MatchResult result (λ kind. kind_named kind ≡ due.kind_among due.kinds number)
-    (λ reason. (r : due.Request) → answer (number_of reason) [] ≡ due.due_to (due.kind_among due.kinds number) r)
+    (λ reason.
+    (reason ≡ refusals.Kind)
+    × (1 ≤ number → number ≤ 6 → ⊥)
+    × ((r : due.Request) → answer (number_of reason) [] ≡ due.due_to (due.kind_among due.kinds number) r))

@@ -1,4 +1,7 @@
 -- The kind of a number. Assumes nothing.
+use mathlib.Core.Path.{refl}
+use Prim.Native.Nat.{◌≤◌}
+use native.Mathlib.Omega.{arith}
 use Rattle.answer_matrix.specs.declared.Asked.TheVariants.{Check, Gates}
 use Rattle.rows.specs.declared.Family.TheVariants.{Hadamard, Circulant}
 use Rattle.reply.proofs.DueFrom.{kind_search, kind_survey, kind_walk, kind_unknown}
@@ -26,4 +29,5 @@ returns-in-6 c = kind_walk _ c.in-6.is
 pub returns-in_default : goal.returns-in_default
 returns-in_default c =
     let other = c.in_default.in_default-own.rest in
-    λ r. kind_unknown _ r other.0.0.0.0.0.1 other.0.0.0.0.1 other.0.0.0.1 other.0.0.1 other.0.1 other.1
+    let none : 1 ≤ c.args.number → c.args.number ≤ 6 → ⊥ = λ l h. omega (arith, other.0.0.0.0.0.1, other.0.0.0.0.1, other.0.0.0.1, other.0.0.1, other.0.1, other.1) in
+    (refl, none, λ r. kind_unknown _ r other.0.0.0.0.0.1 other.0.0.0.0.1 other.0.0.0.1 other.0.0.1 other.0.1 other.1)
