@@ -23,11 +23,10 @@ impl TryFrom<u32> for Kind {
 
     fn try_from(number: u32) -> Result<Kind, Refusal> {
         match number {
-            1 => Ok(Kind::Search(Family::Hadamard)),
+            1 | 5 => Ok(Kind::Search(answer_row::family(number))),
             2 => Ok(Kind::Matrix(Asked::Check)),
             3 => Ok(Kind::Survey),
             4 => Ok(Kind::Matrix(Asked::Gates)),
-            5 => Ok(Kind::Search(Family::Circulant)),
             6 => Ok(Kind::Walk),
             _ => Err(Refusal::Kind),
         }

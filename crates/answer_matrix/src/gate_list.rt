@@ -65,9 +65,9 @@ fn put_outputs(writer: &mut Writer, matrix: Matrix, part: Part)
     let bits = matrix.order * usize::from(matrix.field.degree());
     let mut next = bits as u32;
     for o in 0..bits {
-        let inputs = gates::inputs_at(matrix.field, matrix.entries, matrix.order, o);
-        put_output(writer, next, &inputs, part);
-        next += gates::gate_count(inputs.len()) as u32;
+        let found = gates::inputs_at(matrix.field, matrix.entries, matrix.order, o);
+        put_output(writer, next, &found.list[..found.count], part);
+        next += gates::gate_count(found.count) as u32;
     }
 }
 

@@ -1,13 +1,13 @@
 // Kinds 1 and 5: the lightest row. Kind 6: the best row of a walk.
 #![tactic(auto)]
 
-ghost use Rattle.std.specs.Prelude.{◌≡◌, [], ◌∷◌, ◌≤◌, min, take};
+ghost use Rattle.std.specs.Prelude.{◌≡◌, ◌⊎◌, [], ◌∷◌, ◌≤◌, min, take};
 ghost use Rattle.refusal.specs.Refusals.{answer};
 ghost use Rattle.rows.specs.Keys.{sum_of};
 ghost use Rattle.walk.specs.Answer.{walk_told};
 ghost use Rattle.text.specs.Text.{SixDigits};
 ghost use Rattle.text.specs.Reading.{values_from};
-ghost use Rattle.reply.specs.Due.{request, request_with, row_lines, search, walk, due_to};
+ghost use Rattle.reply.specs.Due.{request, request_with, search_number, row_lines, search, walk, due_to};
 ghost use Rattle.reply.specs.Answered.{RepliedBy};
 
 use arrayvec::ArrayVec;
@@ -53,6 +53,18 @@ fn put_row(space: &mut [u8], field: Field, n: usize, found: LightestRow) -> Resu
         space,
         &[&[0, found.sum, count, order * count], &entries[..n]],
     )
+}
+
+// The family of matrices that a kind searches for.
+pub fn family(kind: u32) -> Family
+    requires { (kind ≡ 1) ⊎ (kind ≡ 5) }
+    ensures { kind ≡ search_number result }
+{
+    if kind == 5 {
+        Family::Circulant
+    } else {
+        Family::Hadamard
+    }
 }
 
 // The search for matrices of a family over the candidates, which stand in the part of a request text that follows line one.

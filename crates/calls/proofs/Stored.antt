@@ -10,7 +10,7 @@ use lib.Seq.{take_all, take-suc, drop-cons, drop-length, ext_get_or, get_or-take
 use Rattle.std.specs.Int.{w32, to_le_bytes}
 use Rattle.std.proofs.lemmas.Slice.{take-put_mid}
 use borrow.Rule.Slice.PartMut.{put_mid}
-use Rattle.calls.specs.Records.{as_bytes}
+use Rattle.calls.specs.Records.{byte_of, as_bytes}
 
 -- ---- eight elements of a list, one by one
 
@@ -39,6 +39,24 @@ pub bytes_append : (a b : List ℕ) → as_bytes (a ++ b) ≡ as_bytes a ++ as_b
 unfolding as_bytes
 bytes_append [] b = refl
 bytes_append (v ∷ vs) b = rw (bytes_append vs b) refl
+
+-- four for each number
+pub length_bytes : (l : List ℕ) → length (as_bytes l) ≡ length l * 4
+unfolding as_bytes
+length_bytes [] = refl
+length_bytes (v ∷ vs) = omega (arith, length_bytes vs)
+
+pub byte_at : (l : List ℕ) (i : ℕ) → i < length l * 4 → byte_of (get_or l (i / 4) 0) (i % 4) ≡ get_or (as_bytes l) i 0
+unfolding as_bytes
+byte_at [] i h = absurd (let z : ⊥ = omega arith in z)
+byte_at (v ∷ vs) zero h = refl
+byte_at (v ∷ vs) (suc zero) h = refl
+byte_at (v ∷ vs) (suc (suc zero)) h = refl
+byte_at (v ∷ vs) (suc (suc (suc zero))) h = refl
+byte_at (v ∷ vs) (suc (suc (suc (suc k)))) h =
+    let number : suc (suc (suc (suc k))) / 4 ≡ suc (k / 4) = omega arith in
+    let place : suc (suc (suc (suc k))) % 4 ≡ k % 4 = omega arith in
+    ap₂ (λ (a b : ℕ). byte_of (get_or (v ∷ vs) a 0) b) number place ∙ byte_at vs k (omega arith)
 
 -- those of one number
 four_bytes : (v : ℕ) → to_le_bytes w32 v ≡ as_bytes (v ∷ [])

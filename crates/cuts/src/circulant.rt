@@ -1,6 +1,7 @@
 // What only the walk over circulant rows has: which letter may stand at a place, and when a whole row is good.
 
 ghost use Rattle.std.specs.Prelude.{◌≡◌, suc, ◌+◌, ◌-◌, ◌*◌, ◌%◌, ◌<◌, ◌≤◌, get_or, take};
+ghost use Rattle.field.specs.Polynomial.{Products};
 ghost use Rattle.field.specs.Steps.{every_below};
 ghost use Rattle.lines.specs.Numbers.{WordsInField};
 ghost use Rattle.lines.specs.Steps.Blocks.{filled, framed};
@@ -11,6 +12,7 @@ ghost use Rattle.cuts.specs.Steps.Families.{circulant_cuts};
 ghost use Rattle.cuts.specs.Steps.Cuts.{AllStand};
 
 use field::table::Table;
+use field::times;
 use lines::array::filled;
 use matrix::block::{Look, regular_between};
 
@@ -48,31 +50,39 @@ fn around(sum: usize, n: usize) -> usize
 }
 
 // Whether the entries at x and d and those at y and z do not have the same product, where z = x + d - y modulo n is below d.
-fn pair_passes(table: &Table, n: usize, row: [u8; 8], d: usize, x: usize, y: usize) -> bool
-    requires { (x ≤ d) × (y < d) × (d < n) × (n ≤ 8) × WordsInField table.now.polynomial (suc d) row }
-    ensures { result ≡ pair_passes table.now.polynomial n row d x y }
+fn pair_passes(
+    p: u16,
+    products: &[u8; 65536],
+    n: usize,
+    row: [u8; 8],
+    d: usize,
+    x: usize,
+    y: usize,
+) -> bool
+    requires { (x ≤ d) × (y < d) × (d < n) × (n ≤ 8) × WordsInField p (suc d) row × Products p products.now }
+    ensures { result ≡ pair_passes p n row d x y }
 {
     let z = around(x + d + (n - y), n);
     if d <= z {
         return true;
     }
-    table.times(row[x], row[d]) != table.times(row[y], row[z])
+    times(p, products, row[x], row[d]) != times(p, products, row[y], row[z])
 }
 
 // Whether all pairs of x and d with y below d pass.
-fn pairs_through(table: &Table, n: usize, row: [u8; 8], d: usize, x: usize) -> bool
-    requires { (x ≤ d) × (d < n) × (n ≤ 8) × WordsInField table.now.polynomial (suc d) row }
-    ensures { result ≡ every_below d (pair_passes table.now.polynomial n row d x) }
+fn pairs_through(p: u16, products: &[u8; 65536], n: usize, row: [u8; 8], d: usize, x: usize) -> bool
+    requires { (x ≤ d) × (d < n) × (n ≤ 8) × WordsInField p (suc d) row × Products p products.now }
+    ensures { result ≡ every_below d (pair_passes p n row d x) }
 {
-    (0..d).all(|y| pair_passes(table, n, row, d, x, y))
+    (0..d).all(|y| pair_passes(p, products, n, row, d, x, y))
 }
 
-// Whether all pairs pass that the entry at place d completes.
-pub(crate) fn pairs_pass(table: &Table, n: usize, row: [u8; 8], d: usize) -> bool
-    requires { (d < n) × (n ≤ 8) × WordsInField table.now.polynomial (suc d) row }
-    ensures { result ≡ pairs_pass table.now.polynomial n row d }
+// Whether all pairs pass that the entry at place d completes. The polynomial may be any over which the products are right.
+pub fn pairs_pass(p: u16, products: &[u8; 65536], n: usize, row: [u8; 8], d: usize) -> bool
+    requires { (d < n) × (n ≤ 8) × WordsInField p (suc d) row × Products p products.now }
+    ensures { result ≡ pairs_pass p n row d }
 {
-    (0..d + 1).all(|x| pairs_through(table, n, row, d, x))
+    (0..d + 1).all(|x| pairs_through(p, products, n, row, d, x))
 }
 
 // The circulant matrix of a row, of order n, and zeros elsewhere.

@@ -31,7 +31,7 @@ pub fn blocks_pass(family: Family, table: &Table, n: usize, row: [u8; 8], d: usi
 {
     match family {
         Family::Hadamard => hadamard::planes_pass(table, n, row, d),
-        Family::Circulant => circulant::pairs_pass(table, n, row, d),
+        Family::Circulant => circulant::pairs_pass(table.polynomial, table.products, n, row, d),
     }
 }
 

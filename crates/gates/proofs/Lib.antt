@@ -5,5 +5,6 @@ pub mod Joined
 pub mod Evaluation
 pub mod AlwaysZero
 pub mod InputLists
+pub mod InputArrays
 pub mod SameEntries
 pub mod Netlists

@@ -3,23 +3,26 @@
 use mathlib.Core.Path.{◌≡◌, refl, sym, ap, subst, ◌∙◌}
 use mathlib.Core.Bool.{false, cond}
 use mathlib.Core.List.Memᴰ
-use mathlib.Core.List.{List, [], Memᴰ}
-use Prim.Native.Nat.{ℕ, ◌+◌, ◌-◌, ◌≤◌, ◌^◌}
+use mathlib.Core.List.{List, [], ◌++◌, Memᴰ}
+use Prim.Native.Nat.{ℕ, ◌+◌, ◌-◌, ◌≤◌, ◌<◌, ◌^◌}
 use native.Mathlib.Omega.{arith}
-use lib.ListN.{take, drop, replicate, length-replicate, replicate-append-replicate}
-use lib.Seq.{drop_at}
-use Rattle.std.specs.Prelude.{Option, None}
+use lib.ListN.{length, get_or, take, drop, replicate, length-replicate, replicate-append-replicate, get_or-append}
+use lib.Seq.{drop_at, length-take-le}
+use Rattle.std.specs.Prelude.{Option, Some, None}
 use Rattle.algebra.specs.Matrix.{words}
 use Rattle.algebra.proofs.Words.{tabulate_cong}
 use Rattle.algebra.proofs.Symmetry.{same_bool}
 use Rattle.field.specs.Polynomial.{Modulus, degree, xor_count}
 use Rattle.field.proofs.Calls.{not_too_large, elements_most}
+use Rattle.lines.specs.Numbers.{WordsInField}
 use Rattle.lines.specs.Counts.{total, element_count}
-use Rattle.rows.specs.Lightest.{nothing, keep_all, lightest, member, ascending}
+use Rattle.rows.specs.Lightest.{Best, nothing, found, keep_all, lightest, member, ascending}
+use Rattle.rows.specs.Shape.{Shape, is_good}
 use Rattle.rows.specs.Keys.{key_of, lightest_row}
 use Rattle.cuts.specs.Steps.Cuts.{Cuts, tried}
 use Rattle.rows.specs.Steps.Walk.{completions}
-use Rattle.rows.proofs.Rows.{member_mem, mem_ascending}
+use Rattle.rows.proofs.Rows.{member_mem, mem_ascending, mem_rows, sorted_rows, get_d_mem}
+use Rattle.rows.proofs.Lightest.{row_sorted}
 use Rattle.rows.proofs.Walk.{extend_all}
 use Rattle.lightest.specs.declared.Best.{Best as Kept}
 use Rattle.rows.specs.Candidates.{some_too_large, some_bad}
@@ -97,3 +100,33 @@ none_kept p n = refl
 pub none_long : (n : ℕ) → Long n (best_as n None)
 unfolding best_as
 none_long n r e = absurd (let z : ◌≡◌ {A = ℕ} 0 1 = cc in omega arith)
+
+-- an array of eight entries holds n of them
+pub best_long : (n : ℕ) (b : Kept) → length b.row ≡ 8 → n ≤ 8 → Long n (best_as n (Some b))
+unfolding best_as
+best_long n b eight most r e = let same : take n b.row ≡ r = cc in ap length (sym same) ∙ length-take-le n b.row (omega arith)
+
+-- ---- the answer
+
+-- the row of a search has n entries, each of them an element
+module _ (shape : Shape) (p n : ℕ) (cs : List ℕ) where
+  row_is : (r : List ℕ) → lightest_row shape p n cs ≡ found r → (length r ≡ n) × ((a : ℕ) → Memᴰ a r → a < 2 ^ degree p)
+  unfolding lightest_row
+  row_is r e =
+      let (l, over) = (mem_rows (2 ^ degree p) cs n r).0 (row_sorted (is_good shape p n) (key_of p n) (sorted_rows (2 ^ degree p) cs n) r e).is_row in
+      (l, λ a m. (over a m).1)
+
+  pub row_long : Long n (lightest_row shape p n cs)
+  row_long r e = (row_is r e).0
+
+  -- so is the array of the row kept
+  pub row_in_field : n ≤ 8 → (b : Kept) → Some b ≡ kept p n (lightest_row shape p n cs) → WordsInField p n b.row
+  unfolding WordsInField
+  row_in_field most b e j l = go (lightest_row shape p n cs) refl e
+    where
+      go : (best : Best) → lightest_row shape p n cs ≡ best → Some b ≡ kept p n best → get_or b.row j 0 < 2 ^ degree p
+      go nothing q k = unfold kept in (absurd (let z : ◌≡◌ {A = ℕ} 0 1 = cc in omega arith))
+      go (found r) q k =
+          let (long, below) = row_is r q in
+          let is : b.row ≡ r ++ replicate (8 - n) 0 = unfold kept in cc in
+          rw (is, get_or-append r (replicate (8 - n) 0) 0 j (omega arith)) (below (get_or r j 0) (get_d_mem r j 0 (omega arith)))

@@ -32,7 +32,7 @@ pub fn lightest_row(family: Family, field: Field, n: usize, candidates: &[u32]) 
 {
     let counts = letters::count_table(field, candidates);
     let known = letters::letters_of(&counts, field.size());
-    let letters = known.as_slice();
+    let letters = &known.list[..known.count];
     let least = u32::from(letters::least_count(&counts, letters));
     let all_ones = ones_table(field);
     let mut products = [0u8; 65536];

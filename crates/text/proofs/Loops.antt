@@ -1,27 +1,16 @@
 -- What is left to write in the loops over a line's numbers and over the values, before a turn and after it.
 -- Assumes nothing.
 use mathlib.Core.Path.{◌≡◌, ap}
-use mathlib.Core.List.{List, [], ◌∷◌, ◌++◌, map}
+use mathlib.Core.List.{List, [], ◌++◌}
 use Prim.Native.Nat.{ℕ, suc, ◌+◌, ◌-◌, ◌<◌, ◌≤◌}
 use native.Mathlib.Nat.{sub-zero}
 use native.Mathlib.Numerals.{add-one}
 use native.Mathlib.Omega.{arith}
 use lib.ListN.{length, length-append, get_or, drop, drop_of_length-le}
-use Rattle.std.proofs.lemmas.List.{get_or-map}
 use lib.Seq.{drop-cons}
-use Rattle.text.specs.Text.{column_byte, column, columns, line_end, value_text}
+use Rattle.text.specs.Text.{column, columns, line_end, value_text}
 use Rattle.text.specs.Reading.{value_at, values_from}
 use Rattle.text.proofs.Lengths.{length_values_from}
-
--- a number: the columns but the last
-abbrev pub places : List ℕ
-places = 100000 ∷ 10000 ∷ 1000 ∷ 100 ∷ 10 ∷ []
-
-abbrev pub front : ℕ → List ℕ
-front v = map (column_byte v) places
-
-pub front_next : (v i : ℕ) → i < 5 → drop i (front v) ≡ (column_byte v (get_or places i 0) ∷ []) ++ drop (i + 1) (front v)
-front_next v i h = rw (add-one, ← get_or-map (column_byte v) places i 0 0 h) (drop-cons (front v) i 0 h)
 
 -- a line, from number i on
 pub columns_next : (vs : List ℕ) (i : ℕ) → i < length vs → columns (drop i vs) ≡ column (get_or vs i 0) ++ columns (drop (i + 1) vs)

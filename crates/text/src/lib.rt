@@ -25,9 +25,6 @@ pub struct Header {
     pub budget: u32,
 }
 
-// What each column but the last counts.
-const PLACES: [u32; 5] = [100000, 10000, 1000, 100, 10];
-
 // ---- writing
 
 // The byte of v in the column that counts `place`s.
@@ -50,24 +47,19 @@ pub struct Writer<'a> {
 }
 
 impl<'a> Writer<'a> {
-    // Writes a byte.
-    fn put_byte(&mut self, byte: u8)
-        requires { self.old.at < length self.old.space.now }
-        ensures { Wrote self.old self.new (byte ∷ []) }
-    {
-        self.space[self.at] = byte;
-        self.at += 1;
-    }
-
     // Writes a number of at most six digits in six columns.
     pub fn put_number(&mut self, v: u32)
         requires { (self.old.at + 6 ≤ length self.old.space.now) × (v ≤ 999999) }
         ensures { Wrote self.old self.new (column v) }
     {
-        for place in &PLACES {
-            self.put_byte(column_byte(v, *place));
-        }
-        self.put_byte(48 + (v % 10) as u8);
+        let at = self.at;
+        self.space[at] = column_byte(v, 100000);
+        self.space[at + 1] = column_byte(v, 10000);
+        self.space[at + 2] = column_byte(v, 1000);
+        self.space[at + 3] = column_byte(v, 100);
+        self.space[at + 4] = column_byte(v, 10);
+        self.space[at + 5] = 48 + (v % 10) as u8;
+        self.at = at + 6;
     }
 
     // Ends a line.
@@ -75,7 +67,8 @@ impl<'a> Writer<'a> {
         requires { self.old.at < length self.old.space.now }
         ensures { Wrote self.old self.new (10 ∷ []) }
     {
-        self.put_byte(10);
+        self.space[self.at] = 10;
+        self.at += 1;
     }
 
     // Writes a line of numbers, each of at most six digits.

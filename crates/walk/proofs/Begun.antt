@@ -5,7 +5,7 @@ use mathlib.Core.List.{List, Memᴰ}
 use Prim.Native.Nat.{ℕ, suc, ◌+◌, ◌-◌, ◌^◌, ◌≤◌, ◌<◌, min}
 use native.Mathlib.Omega.{arith}
 use native.Mathlib.Decide.{dec_lt}
-use lib.ListN.{length, get_or}
+use lib.ListN.{length, get_or, take}
 use Rattle.algebra.specs.Matrix.{tabulate}
 use Rattle.algebra.proofs.Words.{length_tabulate, tabulate_mem}
 use Rattle.field.specs.Polynomial.{Modulus, degree}
@@ -17,9 +17,10 @@ use Rattle.rows.specs.Walks.{lower_bound}
 use Rattle.rows.specs.Steps.Orders.{SearchOrder}
 use Rattle.rows.proofs.Rows.{mem_ascending, get_d_mem}
 use Rattle.std.specs.Prelude.{Option, None}
-use Rattle.lightest.specs.Steps.Letters.{count_table, known}
+use Rattle.lightest.specs.declared.letters.Letters.{Letters}
+use Rattle.lightest.specs.Steps.Letters.{count_table, known, listed}
 use Rattle.lightest.specs.Steps.Prefix.{kept}
-use Rattle.lightest.proofs.LetterCounts.{known_ascending, member_nonzero}
+use Rattle.lightest.proofs.LetterCounts.{known_ascending, listed_take, member_nonzero}
 use Rattle.lightest.proofs.Start.{table_same}
 use Rattle.walk.specs.declared.Position.{Position}
 use Rattle.walk.specs.declared.Walk.{Walk}
@@ -47,8 +48,8 @@ brief_lettered p n h o cs fits fair =
     }
 
 -- the list that the code makes of the table
-pub letters_taken : (counts l items : List ℕ) (p bound : ℕ) → l ≡ items → items ≡ known counts bound → bound ≡ 2 ^ degree p → l ≡ known counts (2 ^ degree p)
-letters_taken counts l items p bound d is e = d ∙ is ∙ ap (known counts) e
+pub letters_taken : (counts : List ℕ) (r : Letters) (p bound : ℕ) → bound ≡ 2 ^ degree p → r ≡ listed (known counts bound) → take r.count r.list ≡ known counts (2 ^ degree p)
+letters_taken counts r p bound e is = listed_take r (known counts bound) is ∙ ap (known counts) e
 
 module _ {p n : ℕ} {letters counts : List ℕ} (b : Lettered p n letters counts) where
   pub letters_ascend : Ascend letters

@@ -47,6 +47,20 @@ free_above_holds used a (then {x = x} {xs = xs} p s) = go (ltb a x) (member x us
     go true true e f rest = rw (e, f) (free_more (λ l. (member_mem x used).0 f) rest)
     go false m e f rest = rw e (free_more (λ l. absurd (omega (arith, ltb-false a x e))) rest)
 
+module _ {letters used : List ℕ} {a v w : ℕ} where
+  -- a free letter is the only one
+  pub free_unique : Free letters used a v → Free letters used a w → v ≡ w
+  free_unique (none_free e f) (none_free d g) = e ∙ sym d
+  free_unique (none_free e f) (least_free m l n g) = absurd (n (f w m l))
+  free_unique (least_free m l n f) (none_free d g) = absurd (n (g v m l))
+  free_unique (least_free m l n f) (least_free i j k g) = elim (dec_lt v w) [
+    | yes h ↦ absurd (n (g v m l h))
+    | no h ↦ elim (dec_lt w v) [
+      | yes q ↦ absurd (k (f w i j q))
+      | no q ↦ omega arith
+    ]
+  ]
+
 -- ---- rows of different letters
 
 -- a row of n different letters

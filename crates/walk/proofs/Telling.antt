@@ -1,6 +1,6 @@
 -- What a walk answers where it stands. Assumes nothing.
 use mathlib.Core.Path.{◌≡◌, refl, sym, ap, ap₂, subst, ◌∙◌}
-use mathlib.Core.Bool.{Bool, true, false, not, cond, ◌&&◌}
+use mathlib.Core.Bool.{Bool, true, false, not, not-not, cond, ◌&&◌}
 use mathlib.Core.List.{List, [], ◌∷◌, ◌++◌}
 use Prim.Native.Nat.{ℕ, ◌+◌, ◌-◌, ◌^◌, ◌≤◌, min}
 use native.Mathlib.Nat.{add-zero}
@@ -124,6 +124,10 @@ module _ (walk : Walk) (w : IsWalk walk) where
       go None = unfold best_as in refl
       go (Some b) = unfold best_as in refl
 
+  -- and a row is kept exactly if there is one
+  pub some_told : is_some at.best ≡ not (is_none (walked_of walk).best)
+  some_told = sym (not-not (is_some at.best)) ∙ ap not none_told
+
   pub ends_told : (not (is_some at.row) && not (is_some at.best)) ≡ ((walked_of walk).finished && is_none (walked_of walk).best)
   ends_told = ap₂ ◌&&◌ finished_told none_told
 
@@ -156,7 +160,7 @@ module _ (p n : ℕ) (cs : List ℕ) (h : Modulus p) (b : Lettered p n (known (c
   abbrev walked_to : List ℕ → ℕ → Walked
   walked_to l t = walk_over (is_good hadamard_shape p n) (key_of p n) (rows_of l n) t
 
-  walked_is : walked_of walk ≡ walk_of p n cs budget
+  pub walked_is : walked_of walk ≡ walk_of p n cs budget
   walked_is =
       ap walked_of is
       ∙ start

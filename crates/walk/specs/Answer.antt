@@ -64,7 +64,7 @@ abbrev pub told_row : Option CountedRow → List ℕ
 told_row None = replicate 8 0
 told_row (Some r) = r.row
 
--- what is told in numbers
+-- what is told in numbers; whether a row is told, which they leave open, is the clause `best` of `tell` and of `best_yet`
 abbrev pub walk_told : Told → WalkFound
 walk_told t = record { finished = cond t.finished 1 0; tried = t.tried; count = told_count t.best; bound = t.bound; row = told_row t.best }
 

@@ -1,9 +1,10 @@
 // The walk over the rows of different candidates, in dictionary order: one step for each row, the best row yet, and the bound.
 #![tactic(auto)]
 
-ghost use Rattle.std.specs.Prelude.{◌≡◌, Some, false, ◌&&◌, [], ◌∷◌, ◌++◌, suc, ◌+◌, ◌-◌, ◌≤◌, ◌<◌, length, replicate};
+ghost use Rattle.std.specs.Prelude.{◌≡◌, Some, is_some, IfOk, false, not, ◌&&◌, [], ◌∷◌, ◌++◌, suc, ◌+◌, ◌-◌, ◌≤◌, ◌<◌, length, replicate};
 ghost use Rattle.refusal.specs.Refusals.{fault, answer_after};
 ghost use Rattle.rows.specs.Candidates.{some_too_large, some_bad};
+ghost use Rattle.rows.specs.Walks.{walk_of};
 ghost use Rattle.rows.specs.Steps.Orders.{SearchOrder};
 ghost use Rattle.lightest.specs.Steps.Letters.{count_table};
 ghost use Rattle.lightest.specs.Steps.Prefix.{kept, best_as};
@@ -109,7 +110,7 @@ pub fn begin(field: Field, n: usize, candidates: &[u32]) -> Walk
 {
     let counts = letters::count_table(field, candidates);
     let known = letters::letters_of(&counts, field.size());
-    let letters = known.as_slice();
+    let letters = &known.list[..known.count];
     let ranks = next::rank_table(letters);
     let row = next::first_row(letters, &ranks, n);
     Walk {
@@ -134,7 +135,7 @@ pub fn run(walk: Walk, budget: u64) -> Walk
         polynomial: walk.polynomial,
     };
     let known = letters::letters_of(&walk.counts, field.size());
-    let letters = known.as_slice();
+    let letters = &known.list[..known.count];
     let ranks = next::rank_table(letters);
     let mut products = [0u8; 65536];
     field.fill_products(&mut products);
@@ -166,6 +167,7 @@ fn counted(field: Field, n: usize, best: Option<Best>) -> Option<CountedRow>
     requires { (n ≤ 8) × (best ≡ kept field.polynomial n (best_as n best)) }
     ensures count { told_count result ≡ best_count field.polynomial n (best_as n best) }
     ensures row { told_row result ≡ best_row n (best_as n best) ++ replicate (8 - n) 0 }
+    ensures some { is_some result ≡ is_some best }
 {
     let best = best?;
     let row = best.row;
@@ -173,11 +175,12 @@ fn counted(field: Field, n: usize, best: Option<Best>) -> Option<CountedRow>
     Some(CountedRow { count, row })
 }
 
-// What a walk answers where it stands: 9 where it is finished without a row.
+// What a walk answers where it stands: 9 where it is finished without a row. A row is told exactly if there is a best one.
 pub fn tell(walk: Walk) -> Result<Told, Refusal>
     requires { IsWalk walk }
-    ensures { says_walk result ≡ answer_after no_walk (fault 9 ((walked_of walk).finished && is_none (walked_of walk).best) ∷ [])
+    ensures answer { says_walk result ≡ answer_after no_walk (fault 9 ((walked_of walk).finished && is_none (walked_of walk).best) ∷ [])
         (walk_found walk.polynomial walk.order (letters_of walk) (walked_of walk)) }
+    ensures best { IfOk result (λ told. is_some told.best ≡ not (is_none (walked_of walk).best)) }
 {
     let field = Field {
         polynomial: walk.polynomial,
@@ -188,18 +191,20 @@ pub fn tell(walk: Walk) -> Result<Told, Refusal>
         return Err(Refusal::NoRow);
     }
     let known = letters::letters_of(&walk.counts, field.size());
+    let letters = &known.list[..known.count];
     let best = counted(field, walk.order, at.best);
     Ok(Told {
         finished,
         tried: at.tried,
         best,
-        bound: bound::lower_bound(field, walk.order, known.as_slice()),
+        bound: bound::lower_bound(field, walk.order, letters),
     })
 }
 
 // The best row yet: the answer of a walk with this polynomial and order over the candidates within a budget of rows, or the refusal.
 pub fn best_yet(p: u32, n: u32, candidates: &[u32], budget: u64) -> Result<Told, Refusal>
-    ensures { says_walk result ≡ walk_answer p n candidates.now budget }
+    ensures answer { says_walk result ≡ walk_answer p n candidates.now budget }
+    ensures best { IfOk result (λ told. is_some told.best ≡ not (is_none (walk_of p n candidates.now budget).best)) }
 {
     let field = search::checked_brief(Family::Hadamard, p, n, candidates)?;
     tell(run(begin(field, n as usize, candidates), budget))

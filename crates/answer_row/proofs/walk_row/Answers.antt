@@ -29,7 +29,7 @@ said c =
 told : (c : In-Ok)
     → let h = c.args.header in
     answer 0 (walk_told c.in-Ok.told) ≡ walk_answer h.polynomial h.order (kept (goal.at.In-Ok c).Start) h.budget
-told c = c.in-Ok.ensures ∙ said (goal.at.In-Ok c).After-from
+told c = c.in-Ok.ensures.answer ∙ said (goal.at.In-Ok c).After-from
 
 pub put_walk-requires : goal.put_walk-requires
 put_walk-requires c =
@@ -40,7 +40,7 @@ pub returns-in-Err : goal.returns-in-Err
 returns-in-Err c =
     let h = c.args.header in
     replied_as
-    (walk_refused h.polynomial h.order (kept (goal.at.returns-in-Err c).Start) h.budget c.in-Err.reason (c.in-Err.ensures ∙ said (goal.at.returns-in-Err c).After-from)
+    (walk_refused h.polynomial h.order (kept (goal.at.returns-in-Err c).Start) h.budget c.in-Err.reason (c.in-Err.ensures.answer ∙ said (goal.at.returns-in-Err c).After-from)
     ∙ walk_kept h.polynomial h.order h.budget c.args.part.now h.count)
     c.refuse.ensures
 

@@ -47,7 +47,7 @@ pub returns-in-16 : goal.returns-in-16
 unfolding reply_to replies value_answers
 returns-in-16 c =
     at_number (listed (goal.at.returns-in-16 c).Start) (value_reply no_answer) c.in-16.is
-    (c.walk_reply.ensures ∙ ap walk_reply c.best_yet.ensures)
+    (c.walk_reply.ensures ∙ ap walk_reply c.best_yet.ensures.answer)
 
 -- a call that is none of the six behind the values
 none_of : (call : ℕ) → (call ≡ 11 → ⊥) → (call ≡ 12 → ⊥) → (call ≡ 13 → ⊥) → (call ≡ 14 → ⊥) → (call ≡ 15 → ⊥) → (call ≡ 16 → ⊥)

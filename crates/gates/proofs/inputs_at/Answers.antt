@@ -4,6 +4,7 @@ use native.Mathlib.Nat.{mod-lt, div-lt_iff_lt-mul}
 use Rattle.field.specs.Polynomial.{degree}
 use Rattle.lines.specs.Numbers.{entry, InField, WordsInField}
 use Rattle.gates.specs.Gates.{inputs_of}
+use Rattle.gates.specs.Steps.{as_inputs}
 use Rattle.gates.proofs.InputLists.{width}
 use Rattle.gates.proofs.inputs_at.Goals as goal
 use Rattle.gates.proofs.inputs_at.Goals.{After-from-m}
@@ -24,4 +25,4 @@ pub returns : goal.returns
 returns c =
     let a = c.args in
     c.inputs_of.ensures
-    ∙ ap (λ (m : ℕ). inputs_of a.field.polynomial a.n (entry a.matrix (a.o / m)) (a.o % m)) (same (goal.at.returns c).After-from-m)
+    ∙ ap (λ (m : ℕ). as_inputs (inputs_of a.field.polynomial a.n (entry a.matrix (a.o / m)) (a.o % m))) (same (goal.at.returns c).After-from-m)

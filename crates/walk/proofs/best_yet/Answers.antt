@@ -1,8 +1,9 @@
 -- `walk::best_yet` meets its contract: what the brief is refused for, the walk is; else it is told where the walk stands. Assumes nothing.
-use mathlib.Core.Path.{◌≡◌, ap, ◌∙◌}
-use mathlib.Core.Bool.{◌&&◌}
+use mathlib.Core.Path.{◌≡◌, ap, subst, ◌∙◌}
+use mathlib.Core.Bool.{not, ◌&&◌}
 use mathlib.Core.List.{List, [], ◌∷◌}
 use Prim.Native.Nat.{ℕ, ◌^◌}
+use Rattle.std.specs.Prelude.{IfOk, is_some}
 use Rattle.std.proofs.lemmas.Result.{err_from_is_err_and}
 use Rattle.refusal.specs.Refusals.{Answer, fault, first_number, answer_after}
 use Rattle.refusal.proofs.Faults.{refused_before}
@@ -12,18 +13,22 @@ use Rattle.rows.specs.declared.Family.TheVariants.{Hadamard}
 use Rattle.lightest.specs.Steps.Letters.{count_table, known}
 use Rattle.search.specs.Answer.{brief_faults, is_none}
 use Rattle.search.proofs.Refusals.{BriefPassed, brief_passed, brief_behind}
+use Rattle.walk.specs.declared.Told.{Told}
 use Rattle.walk.specs.Answer.{WalkFound, no_walk, walk_found, walk_faults, walk_answer}
-use Rattle.walk.specs.Steps.Positions.{Lettered, walk_at}
+use Rattle.walk.specs.Steps.Positions.{Lettered, walked_of, walk_at}
 use Rattle.walk.proofs.Begun.{brief_lettered, walk_at_holds, walk_begun}
-use Rattle.walk.proofs.Telling.{brief_told}
+use Rattle.walk.proofs.Telling.{walked_is, brief_told}
 use Rattle.walk.proofs.best_yet.Goals as goal
 use Rattle.walk.proofs.best_yet.Goals.{In_ok-field, After-run}
 
-pub returns-in_err-field : goal.returns-in_err-field
+pub returns-in_err-field-clause-answer : goal.returns-in_err-field-clause-answer
 unfolding walk_answer walk_faults
-returns-in_err-field c =
+returns-in_err-field-clause-answer c =
     let p = err_from_is_err_and c.from_residual.result c.from_residual.ensures.1 in
     rw (p.1, p.2) (refused_before no_walk _ (brief_faults Hadamard c.args.p c.args.n c.args.candidates.now) _ _ c.in_err-field.ensures)
+
+pub returns-in_err-field-clause-best : goal.returns-in_err-field-clause-best
+returns-in_err-field-clause-best c = let p = err_from_is_err_and c.from_residual.result c.from_residual.ensures.1 in rw p.1 tt
 
 -- nothing applies to the brief over the field made
 passed : (c : In_ok-field) → BriefPassed Hadamard c.in_ok-field.field.polynomial c.args.n c.args.candidates.now
@@ -52,13 +57,26 @@ tell-requires c = walk_at_holds (lettered (goal.at.tell-requires c).In_ok-field)
 abbrev nine : ℕ → ℕ → List ℕ → Walked → Answer WalkFound
 nine p n candidates w = answer_after no_walk (fault 9 (w.finished && is_none w.best) ∷ []) (walk_found p n candidates w)
 
-pub returns : goal.returns
+pub returns-clause-answer : goal.returns-clause-answer
 unfolding walk_answer walk_faults
-returns c =
+returns-clause-answer c =
     let a = c.args in
     let field = c.in_ok-field.field in
     let (made, none) = c.in_ok-field.ensures in
-    c.tell.ensures
-    ∙ brief_told field.polynomial a.n a.candidates.now field.modulus (lettered (goal.at.returns c).In_ok-field) a.budget c.run.result (ran (goal.at.returns c).After-run)
+    c.tell.ensures.answer
+    ∙ brief_told field.polynomial a.n a.candidates.now field.modulus (lettered (goal.at.returns-clause-answer c).In_ok-field) a.budget c.run.result (ran (goal.at.returns-clause-answer c).After-run)
     ∙ ap (λ (p : ℕ). nine p a.n a.candidates.now (walk_of p a.n a.candidates.now a.budget)) made
     ∙ brief_behind Hadamard a.p a.n a.candidates.now none no_walk _ _
+
+-- the walk that is told is that of the brief
+walked : (c : After-run) → let a = c.args in walked_of c.run.result ≡ walk_of a.p a.n a.candidates.now a.budget
+walked c =
+    let a = c.args in
+    let field = c.in_ok-field.field in
+    walked_is field.polynomial a.n a.candidates.now field.modulus (lettered (goal.at.After-run c).In_ok-field) a.budget c.run.result (ran c)
+    ∙ ap (λ (p : ℕ). walk_of p a.n a.candidates.now a.budget) c.in_ok-field.ensures.0
+
+pub returns-clause-best : goal.returns-clause-best
+returns-clause-best c =
+    subst (λ (w : Walked). IfOk c.tell.result (λ (told : Told). is_some told.best ≡ not (is_none w.best)))
+    (walked (goal.at.returns-clause-best c).After-run) c.tell.ensures.best

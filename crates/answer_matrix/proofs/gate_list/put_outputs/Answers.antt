@@ -4,17 +4,19 @@ use mathlib.Core.List.{List, []}
 use Prim.Native.Nat.{ℕ, ◌-◌, ◌*◌, ◌/◌, ◌%◌, ◌≤◌, ◌<◌}
 use native.Mathlib.Nat.{mul-le-mul}
 use native.Mathlib.Omega.{arith}
-use lib.ListN.{length, get_or}
+use lib.ListN.{length, get_or, take}
+use lib.Seq.{length-take-le}
 use Rattle.field.specs.Polynomial.{degree}
 use Rattle.field.proofs.Degrees.{polynomial}
 use Rattle.lines.specs.Numbers.{entry}
 use Rattle.gates.specs.Gates.{outputs}
 use Rattle.gates.proofs.InputLists.{inputs_few}
+use Rattle.gates.proofs.InputArrays.{inputs_take, inputs_count_is, inputs_fit}
 use Rattle.gates.proofs.Joined.{length_outputs, output_at}
 use Rattle.text.proofs.Places.{left_start}
 use Rattle.answer_matrix.proofs.GateLines.{outputs_room, outputs_step, outputs_finish}
 use Rattle.answer_matrix.proofs.gate_list.put_outputs.Goals as goal
-use Rattle.answer_matrix.proofs.gate_list.put_outputs.Goals.{After-deref, After-from, After-inputs_at-inputs, In-loop-o, Start}
+use Rattle.answer_matrix.proofs.gate_list.put_outputs.Goals.{After-from, After-inputs_at-found, In-loop-o, Start}
 
 -- there are n·m output bits, at most 64
 bits : (c : After-from) → c.args.matrix.order * c.from.result ≡ c.args.matrix.order * degree c.args.matrix.field.polynomial
@@ -39,44 +41,55 @@ below c = rw (bits (goal.at.In-loop-o c).After-from) at c.loop-o-test.true
 place : (c : In-loop-o) → c.loop-o.o < length (outs (goal.at.In-loop-o c).Start)
 place c = rw (length_outputs c.args.matrix.field.polynomial c.args.matrix.order (entry c.args.matrix.entries)) (below c)
 
-given : (c : After-inputs_at-inputs) → c.inputs_at-inputs.result.items ≡ get_or (outs (goal.at.After-inputs_at-inputs c).Start) c.loop-o.o []
+given : (c : After-inputs_at-found)
+    → take c.inputs_at-found.result.count c.inputs_at-found.result.list ≡ get_or (outs (goal.at.After-inputs_at-found c).Start) c.loop-o.o []
 given c =
     let m = c.args.matrix in
-    c.inputs_at-inputs.ensures ∙ sym (output_at m.field.polynomial m.order (entry m.entries) c.loop-o.o (below (goal.at.After-inputs_at-inputs c).In-loop-o))
+    inputs_take _ _ c.inputs_at-found.ensures
+    ∙ sym (output_at m.field.polynomial m.order (entry m.entries) c.loop-o.o (below (goal.at.After-inputs_at-found c).In-loop-o))
 
-most : (c : After-inputs_at-inputs) → length c.inputs_at-inputs.result.items ≤ 64
+counted : (c : After-inputs_at-found) → c.inputs_at-found.result.count ≡ length (get_or (outs (goal.at.After-inputs_at-found c).Start) c.loop-o.o [])
+counted c =
+    let m = c.args.matrix in
+    inputs_count_is _ _ c.inputs_at-found.ensures
+    ∙ ap length (sym (output_at m.field.polynomial m.order (entry m.entries) c.loop-o.o (below (goal.at.After-inputs_at-found c).In-loop-o)))
+
+most : (c : After-inputs_at-found) → c.inputs_at-found.result.count ≤ 64
 most c =
     let m = c.args.matrix in
     let p = m.field.polynomial in
     omega (
       arith,
-      ap length c.inputs_at-inputs.ensures,
+      inputs_count_is _ _ c.inputs_at-found.ensures,
       inputs_few p m.order (c.loop-o.o % degree p) (entry m.entries (c.loop-o.o / degree p)),
-      bits (goal.at.After-inputs_at-inputs c).After-from,
-      few (goal.at.After-inputs_at-inputs c).After-from,
+      bits (goal.at.After-inputs_at-found c).After-from,
+      few (goal.at.After-inputs_at-found c).After-from,
     )
 
-seen : (c : After-deref) → c.deref.result.now ≡ get_or (outs (goal.at.After-deref c).Start) c.loop-o.o []
-seen c = c.deref.ensures.0 ∙ given (goal.at.After-deref c).After-inputs_at-inputs
+pub inputs_at-found-requires : goal.inputs_at-found-requires
+inputs_at-found-requires c = (c.args.matrix.high, c.args.matrix.inside, below (goal.at.inputs_at-found-requires c).In-loop-o)
 
-pub inputs_at-inputs-requires : goal.inputs_at-inputs-requires
-inputs_at-inputs-requires c = (c.args.matrix.high, c.args.matrix.inside, below (goal.at.inputs_at-inputs-requires c).In-loop-o)
+pub shared_ref_as_front-put_output : goal.shared_ref_as_front-put_output
+shared_ref_as_front-put_output c = most (goal.at.shared_ref_as_front-put_output c).After-inputs_at-found
+
+pub slice_bounds-put_output-end : goal.slice_bounds-put_output-end
+slice_bounds-put_output-end c = sym (length-take-le _ _ (inputs_fit _ _ c.inputs_at-found.ensures))
 
 pub put_output-requires : goal.put_output-requires
 put_output-requires c =
-    let w = (goal.at.put_output-requires c).After-deref in (
-      omega (arith, ap length c.deref.ensures.0, most (goal.at.put_output-requires c).After-inputs_at-inputs),
+    let found = (goal.at.put_output-requires c).After-inputs_at-found in (
+      rw (given found) (omega (arith, counted found, most found)),
       omega (arith, c.loop-o.invariant.0, c.loop-o-test.true, few (goal.at.put_output-requires c).After-from),
-      rw (seen w) (outputs_room c.args.part c.loop-o.next (outs (goal.at.put_output-requires c).Start) c.loop-o.o c.loop-o.invariant.1 (place (goal.at.put_output-requires c).In-loop-o) c.requires),
+      rw (given found) (outputs_room c.args.part c.loop-o.next (outs (goal.at.put_output-requires c).Start) c.loop-o.o c.loop-o.invariant.1 (place (goal.at.put_output-requires c).In-loop-o) c.requires),
     )
 
 pub loop-o-preserved : goal.loop-o-preserved
 loop-o-preserved c =
     let all = outs (goal.at.loop-o-preserved c).Start in
-    let count : c.len.result ≡ length c.inputs_at-inputs.result.items = c.len.ensures.value in (
-      omega (arith, c.gate_count.ensures, count, most (goal.at.loop-o-preserved c).After-inputs_at-inputs, c.loop-o.invariant.0),
-      outputs_step c.args.part c.loop-o.next all c.loop-o.o c.loop-o.invariant.1 (place (goal.at.loop-o-preserved c).In-loop-o) (seen (goal.at.loop-o-preserved c).After-deref)
-          (c.gate_count.ensures ∙ ap (λ (k : ℕ). k - 1) (count ∙ ap length (given (goal.at.loop-o-preserved c).After-inputs_at-inputs)))
+    let found = (goal.at.loop-o-preserved c).After-inputs_at-found in (
+      omega (arith, c.gate_count.ensures, most found, c.loop-o.invariant.0),
+      outputs_step c.args.part c.loop-o.next all c.loop-o.o c.loop-o.invariant.1 (place (goal.at.loop-o-preserved c).In-loop-o) (given found)
+          (c.gate_count.ensures ∙ ap (λ (k : ℕ). k - 1) (counted found))
           c.put_output.ensures,
     )
 

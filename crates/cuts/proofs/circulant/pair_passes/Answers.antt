@@ -21,16 +21,16 @@ returns-then-d-z c = pair_later _ _ _ _ _ _ (omega (arith, c.around-z.ensures, c
 
 pub times-requires : goal.times-requires
 unfolding WordsInField
-times-requires c = c.requires.4 c.args.x (omega (arith, c.requires.0))
+times-requires c = (c.requires.4 c.args.x (omega (arith, c.requires.0)), c.requires.5)
 
 pub times-requires-2 : goal.times-requires-2
 unfolding WordsInField
-times-requires-2 c = c.requires.4 c.args.y (omega (arith, c.requires.1))
+times-requires-2 c = (c.requires.4 c.args.y (omega (arith, c.requires.1)), c.requires.5)
 
 pub returns : goal.returns
 unfolding fourth_around
 returns c =
     let z = c.around-z in
     ap₂ (λ (a b : ℕ). not (eqb a b)) c.times.ensures
-    (c.times-2.ensures ∙ ap (λ (k : ℕ). product c.args.table.now.polynomial (get_or c.args.row c.args.y 0) (get_or c.args.row k 0)) z.ensures)
-    ∙ pair_decides c.args.table.now.polynomial c.args.n c.args.row c.args.d c.args.x c.args.y (omega (arith, z.ensures, c.if-d-z.false))
+    (c.times-2.ensures ∙ ap (λ (k : ℕ). product c.args.p (get_or c.args.row c.args.y 0) (get_or c.args.row k 0)) z.ensures)
+    ∙ pair_decides c.args.p c.args.n c.args.row c.args.d c.args.x c.args.y (omega (arith, z.ensures, c.if-d-z.false))
